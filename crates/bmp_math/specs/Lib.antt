@@ -1,0 +1,9 @@
+pub mod Sums
+pub mod Congruences
+pub mod Vectors
+pub mod Matrices
+pub mod Spans
+pub mod Integers
+pub mod IntegerSums
+pub mod Lists
+pub mod Statements

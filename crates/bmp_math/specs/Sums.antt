@@ -1,0 +1,8 @@
+-- Finite sums of natural numbers.
+--   sum_below f n    f 0 + .. + f (n - 1), and 0 where n is 0
+use Rattle.std.specs.Prelude.{ℕ, zero, suc, ◌+◌}
+
+-- f 0 + .. + f (n - 1)
+unfoldable pub sum_below : (ℕ → ℕ) → ℕ → ℕ
+sum_below f zero = 0
+sum_below f (suc n) = sum_below f n + f n
