@@ -1,0 +1,5 @@
+pub mod FieldLaws
+pub mod Primes
+pub mod Tables
+pub mod PrimeFields
+pub mod PrimeLaws
