@@ -1,6 +1,6 @@
 -- Numbers that are the same modulo p.
-use Rattle.std.proofs.Common.{◌≡◌, ℕ, zero, suc, ◌+◌, ◌*◌, ◌%◌, arith, refl, sym, ap, ap₂, ◌∙◌}
-use Rattle.std.proofs.Math.Nat.{add-mod, mod-zero, add-mul-mod_self_left}
+use Rattle.std.proofs.Common.{◌≡◌, ℕ, zero, suc, ◌+◌, ◌*◌, ◌%◌, ◌<◌, arith, refl, sym, ap, ap₂, ◌∙◌}
+use Rattle.std.proofs.Math.Nat.{add-mod, mod-zero, mod-mod, mod-eq_of_lt, add-mul-mod_self_left}
 use Rattle.std.proofs.lemmas.Nat.{mul-mod}
 use Rattle.bmp_math.specs.Congruences.{SameMod}
 
@@ -58,3 +58,11 @@ mul_one p c x h = let e : c * 1 ≡ c = omega arith in same_mul p c c x 1 refl h
 
 pub one_mul : (p x c : ℕ) → SameMod p x 1 → SameMod p (x * c) c
 one_mul p x c h = let e : 1 * c ≡ c = omega arith in same_mul p x 1 c c h refl ∙ ap (λ z. z % p) e
+
+-- numbers below p that are the same modulo p are equal
+pub same_below : (p a b : ℕ) → a < p → b < p → SameMod p a b → a ≡ b
+same_below p a b a_below b_below h = sym (mod-eq_of_lt a_below) ∙ h ∙ mod-eq_of_lt b_below
+
+-- and so are remainders
+pub same_remainders : (p a b x y : ℕ) → a ≡ x % p → b ≡ y % p → SameMod p a b → a ≡ b
+same_remainders p a b x y e f h = e ∙ sym (mod-mod x p) ∙ ap (λ z. z % p) (sym e) ∙ h ∙ ap (λ z. z % p) f ∙ mod-mod y p ∙ sym f

@@ -1,10 +1,10 @@
 -- Laws of sums of integers.
-use Rattle.std.proofs.Common.{◌≡◌, ◌≢◌, ℕ, zero, suc, ◌+◌, ◌<◌, ◌==◌, if◌then◌else◌, arith, refl, sym, ap, ap₂, ◌∙◌, inl, inr, ℤ, pos, ◌+ℤ◌, ◌-ℤ◌, ◌*ℤ◌}
+use Rattle.std.proofs.Common.{◌≡◌, ◌≢◌, ℕ, zero, suc, ◌+◌, ◌<◌, arith, refl, sym, ap, ap₂, ◌∙◌, inl, inr, ℤ, pos, ◌+ℤ◌, ◌-ℤ◌, ◌*ℤ◌}
 use Rattle.std.proofs.lemmas.Bool.{cases_eq}
 use Rattle.std.proofs.lemmas.Bool.Decides.{nat_tests}
 use Rattle.std.proofs.lemmas.Int.{ints}
 use Rattle.bmp_math.specs.IntegerSums.{integer_sum, integer_unit}
-use Rattle.bmp_math.proofs.IntegerLemmas.{mul-add, add-mul, mul-sub, sub-mul, mul_assoc, mul_swap, one-mul, mul-one, zero-mul, mul-zero}
+use Rattle.bmp_math.proofs.IntegerLemmas.{mul-add, one-mul, mul-one, zero-mul, mul-zero}
 
 pub integer_sum-zero : (f : ℕ → ℤ) → integer_sum f 0 ≡ pos 0
 unfolding integer_sum

@@ -1,9 +1,10 @@
 -- Combinations of rows, and what rows say of combinations.
-use Rattle.std.proofs.Common.{◌≡◌, ℕ, ◌+◌, ◌*◌, ◌<◌, arith, ◌∙◌}
+use Rattle.std.proofs.Common.{◌≡◌, ℕ, ◌+◌, ◌*◌, ◌%◌, arith, refl, sym, ap, ◌∙◌}
 use Rattle.bmp_math.specs.Sums.{sum_below}
-use Rattle.bmp_math.specs.Vectors.{dot, plus, scaled}
+use Rattle.bmp_math.specs.Vectors.{dot, plus, scaled, IsLinear}
 use Rattle.bmp_math.specs.Matrices.{Matrix, combination, image}
-use Rattle.bmp_math.proofs.SumLemmas.{sum_below-add, sum_below-mul, sum_below-swap, sum_below_same}
+use Rattle.bmp_math.proofs.SumLemmas.{sum_below-add, sum_below-mul, sum_below-swap, sum_below_same, sum_same_mod}
+use Rattle.bmp_math.proofs.CongruenceLemmas.{same_mul}
 
 module _ (a : Matrix) where
   -- what the rows say of a sum
@@ -32,3 +33,24 @@ module _ (a : Matrix) where
       ∙ sum_below-swap (λ j i. v j * (c i * a.entry i j)) a.cols a.rows
       ∙ sum_below_same (λ i. sum_below (λ j. v j * (c i * a.entry i j)) a.cols) (λ i. c i * image a v i) a.rows
       (λ i l. sum_below_same (λ j. v j * (c i * a.entry i j)) (λ j. c i * (v j * a.entry i j)) a.cols (λ j k. omega arith) ∙ sum_below-mul (c i) (λ j. v j * a.entry i j) a.cols)
+
+-- a combination of combinations of vectors is a combination of the vectors
+pub combination-combination : (c : ℕ → ℕ) (d vs : ℕ → ℕ → ℕ) (m n j : ℕ) → combination c (λ k. combination (d k) vs n) m j ≡ combination (combination c d m) vs n j
+combination-combination c d vs m n j =
+    sum_below_same (λ k. c k * sum_below (λ i. d k i * vs i j) n) (λ k. sum_below (λ i. c k * (d k i * vs i j)) n) m (λ k l. sym (sum_below-mul (c k) (λ i. d k i * vs i j) n))
+    ∙ sum_below-swap (λ k i. c k * (d k i * vs i j)) m n
+    ∙ sum_below_same (λ i. sum_below (λ k. c k * (d k i * vs i j)) m) (λ i. combination c d m i * vs i j) n (λ i l. gathered i)
+  where
+    gathered : (i : ℕ) → sum_below (λ k. c k * (d k i * vs i j)) m ≡ combination c d m i * vs i j
+    gathered i =
+        sum_below_same (λ k. c k * (d k i * vs i j)) (λ k. vs i j * (c k * d k i)) m (λ k l. omega arith)
+        ∙ sum_below-mul (vs i j) (λ k. c k * d k i) m
+        ∙ omega arith
+
+-- the image is a linear map
+pub image_is_linear : (p : ℕ) (a : Matrix) → IsLinear p a.cols a.rows (image a)
+image_is_linear p a = record {
+  respects = λ u v same i l. sum_same_mod p (λ j. u j * a.entry i j) (λ j. v j * a.entry i j) a.cols (λ j k. same_mul p (u j) (v j) (a.entry i j) (a.entry i j) (same j k) refl);
+  sums = λ u v i l. ap (λ z. z % p) (image-plus a u v i);
+  multiples = λ c v i l. ap (λ z. z % p) (image-scaled a c v i);
+}

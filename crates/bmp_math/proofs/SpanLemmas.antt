@@ -1,6 +1,5 @@
 -- Spans of sets of vectors, modulo p, and forms that vanish on them.
-use Rattle.std.proofs.Common.{◌≡◌, ◌≢◌, ℕ, zero, suc, ◌+◌, ◌*◌, ◌%◌, ◌<◌, ◌≤◌, List, [], ◌∷◌, ◌++◌, refl, sym, ap, ◌∙◌, arith}
-use Rattle.bmp_math.specs.Sums.{sum_below}
+use Rattle.std.proofs.Common.{◌≡◌, ℕ, ◌+◌, ◌*◌, ◌%◌, List, [], ◌∷◌, refl, ap, ◌∙◌, arith}
 use Rattle.bmp_math.specs.Congruences.{SameMod}
 use Rattle.bmp_math.specs.Vectors.{dot}
 use Rattle.bmp_math.specs.Spans.{Term, total, Each, InSpan}

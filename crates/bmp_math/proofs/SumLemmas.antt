@@ -1,5 +1,5 @@
 -- Laws of sums over the numbers below a bound.
-use Rattle.std.proofs.Common.{◌≡◌, ◌≢◌, ℕ, zero, suc, ◌+◌, ◌*◌, ◌%◌, ◌<◌, arith, refl, sym, ap, ap₂, ◌∙◌, inl, inr}
+use Rattle.std.proofs.Common.{◌≡◌, ◌≢◌, ℕ, zero, suc, ◌+◌, ◌*◌, ◌%◌, ◌<◌, ◌≤◌, arith, refl, sym, ap, ap₂, ◌∙◌, inl, inr}
 use Rattle.std.proofs.lemmas.Bool.{cases_eq}
 use Rattle.bmp_math.specs.Sums.{sum_below}
 use Rattle.bmp_math.specs.Congruences.{SameMod}
@@ -43,6 +43,23 @@ unfolding sum_below
 sum_below-swap f zero n = sym (sum_below-zeros n)
 sum_below-swap f (suc m) n =
     omega (arith, sum_below-swap f m n, sum_below-add (λ j. sum_below (λ i. f i j) m) (λ j. f m j) n)
+
+-- a sum over a joined bound
+pub sum_below_joined : (f : ℕ → ℕ) (m n : ℕ) → sum_below f (m + n) ≡ sum_below f m + sum_below (λ i. f (m + i)) n
+unfolding sum_below
+sum_below_joined f m zero = let e : m + zero ≡ m = omega arith in ap (sum_below f) e ∙ omega arith
+sum_below_joined f m (suc n) =
+    let e : m + suc n ≡ suc (m + n) = omega arith in
+    ap (sum_below f) e ∙ omega (arith, sum_below_joined f m n)
+
+-- more terms, no smaller sum
+pub sum_below_rises : (f : ℕ → ℕ) (m n : ℕ) → m ≤ n → sum_below f m ≤ sum_below f n
+sum_below_rises f m zero l = let e : m ≡ 0 = omega arith in rw e (omega arith)
+sum_below_rises f m (suc n) l =
+    elim (cases_eq m (suc n)) [
+      | inl same ↦ rw same (omega arith)
+      | inr other ↦ omega (arith, sum_below_rises f m n (omega arith), sum_below-suc f n)
+    ]
 
 module _ (p : ℕ) where
   pub sum_same_mod : (f g : ℕ → ℕ) (n : ℕ) → ((i : ℕ) → i < n → SameMod p (f i) (g i)) → SameMod p (sum_below f n) (sum_below g n)

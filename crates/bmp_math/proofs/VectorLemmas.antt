@@ -1,11 +1,10 @@
 -- Vectors and linear maps modulo p. Linear maps agree where they agree on units.
-use Rattle.std.proofs.Common.{◌≡◌, ◌≢◌, ℕ, zero, suc, ◌+◌, ◌*◌, ◌%◌, ◌<◌, ◌≤◌, cond, eqb, refl, sym, ap, ◌∙◌, arith, eq-eqb, ne_eqb}
+use Rattle.std.proofs.Common.{◌≡◌, ℕ, zero, suc, ◌+◌, ◌*◌, ◌%◌, ◌<◌, ◌≤◌, cond, eqb, refl, sym, ap, ◌∙◌, arith, eq-eqb, ne_eqb}
 use Rattle.std.proofs.lemmas.Bool.{cond-true, cond-false}
 use Rattle.bmp_math.specs.Sums.{sum_below}
-use Rattle.bmp_math.specs.Congruences.{SameMod}
 use Rattle.bmp_math.specs.Vectors.{SameVector, unit, plus, scaled, IsLinear}
 use Rattle.bmp_math.proofs.CongruenceLemmas.{same_add, same_mul}
-use Rattle.bmp_math.proofs.SumLemmas.{sum_below-zero, sum_below-suc, sum_below_same, sum_below-zeros, sum_below_only}
+use Rattle.bmp_math.proofs.SumLemmas.{sum_below-zero, sum_below-suc, sum_below_only}
 
 -- the first k numbers of v, and 0 after them
 front : (ℕ → ℕ) → ℕ → ℕ → ℕ

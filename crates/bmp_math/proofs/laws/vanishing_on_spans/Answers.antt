@@ -1,4 +1,3 @@
-use Rattle.std.specs.Prelude.{ℕ, ◌≡◌}
 use Rattle.bmp_math.specs.Vectors.{dot}
 use Rattle.bmp_math.specs.Congruences.{SameMod}
 use Rattle.bmp_math.proofs.SpanLemmas.{vanishes_on_terms}
