@@ -1,0 +1,12 @@
+pub mod RootLemmas
+pub mod PairLemmas
+pub mod SignLemmas
+pub mod ClosingLemmas
+pub mod PositiveLemmas
+pub mod DecisionLemmas
+pub mod SystemLemmas
+pub mod LawLemmas
+pub mod CoordinateLemmas
+pub mod PairListLemmas
+pub mod ClosingSteps
+pub mod RootsLemmas
