@@ -1,0 +1,13 @@
+pub mod SparseLemmas
+pub mod EntrySums
+pub mod RowSums
+pub mod RowChangeLemmas
+pub mod RowTableLemmas
+pub mod SparseRowLemmas
+pub mod ShapeLemmas
+pub mod FaultLemmas
+pub mod FreeLemmas
+pub mod RowCheckLemmas
+pub mod KernelLemmas
+pub mod Spanning
+pub mod KernelSpans

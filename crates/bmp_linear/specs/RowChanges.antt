@@ -1,0 +1,36 @@
+-- Rows that became longer, and rows of numbers that rows are added to.
+--   IsRowPushed old new row              the matrix has one row more
+--   HoldsNumbers p n list                the first n of the list are numbers below p
+--   IsRowAddedTo p a i c old new         c times row i of a was added to a row of numbers
+--   AddsEntries p c v old new            c times a vector was added to a row of numbers
+--   IsCombined p a c numbers             the first of the numbers are the combination c of the rows of a
+use Rattle.std.specs.Prelude.{◌≡◌, ℕ, ◌+◌, ◌*◌, ◌%◌, ◌<◌, ◌≤◌, List, length, slice_index}
+use Rattle.bmp_math.specs.Matrices.{Matrix, combination}
+use Rattle.bmp_linear.specs.declared.vector.Entry.{Entry}
+use Rattle.bmp_linear.specs.SparseVectors.{number_at}
+
+-- one row more, and nothing else changed
+pub record IsRowPushed (old new : Matrix) (row : ℕ → ℕ) : Type 0 where
+  pub rows : new.rows ≡ old.rows + 1
+  pub cols : new.cols ≡ old.cols
+  pub pushed : (j : ℕ) → j < old.cols → new.entry old.rows j ≡ row j
+  pub others : (i j : ℕ) → i < old.rows → j < old.cols → new.entry i j ≡ old.entry i j
+
+-- the first n of the list are numbers below p
+pub record HoldsNumbers (p n : ℕ) (list : List ℕ) : Type 0 where
+  pub room : n ≤ length list
+  pub below : (j : ℕ) → j < n → slice_index list j < p
+
+-- c times row i was added, modulo p, and what stands past the columns is as before
+pub record IsRowAddedTo (p : ℕ) (a : Matrix) (i c : ℕ) (old new : List ℕ) : Type 0 where
+  pub added : (j : ℕ) → j < a.cols → slice_index new j ≡ (slice_index old j + c * a.entry i j) % p
+  pub others : (j : ℕ) → a.cols ≤ j → slice_index new j ≡ slice_index old j
+
+-- c times the numbers of v were added, modulo p, and where these are 0 nothing changed
+pub record AddsEntries (p c : ℕ) (v : List Entry) (old new : List ℕ) : Type 0 where
+  pub added : (j : ℕ) → slice_index old j < p → slice_index new j ≡ (slice_index old j + c * number_at v j) % p
+  pub others : (j : ℕ) → number_at v j ≡ 0 → slice_index new j ≡ slice_index old j
+
+-- the first of the numbers are the combination of the rows, modulo p
+abbrev pub IsCombined : ℕ → Matrix → (ℕ → ℕ) → List ℕ → Type 0
+IsCombined p a c numbers = (j : ℕ) → j < a.cols → slice_index numbers j ≡ combination c a.entry a.rows j % p

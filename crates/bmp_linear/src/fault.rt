@@ -1,0 +1,10 @@
+//! What the checks answer.
+
+/// The first comparison that failed: where it stands, and the two numbers that differ.
+#[derive(Clone, Copy, Debug, PartialEq, Eq)]
+pub struct RowFault {
+    pub index: u64,
+    pub place: u64,
+    pub left: u32,
+    pub right: u32,
+}

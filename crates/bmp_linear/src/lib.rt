@@ -1,0 +1,39 @@
+//! Vectors, rows of numbers of a field, and the checks of evidence about them.
+//!
+//! The list types (`Places`, `Vector`, `Vectors`, `Blocks`) have fewer than 2^32 members each and are
+//! seen as lists. `Rows` is what the checks read: rows in memory (`DenseRows`, `SparseRows`) or a view
+//! that keeps none (`Turned`). The checks take no memory: they work in a `Scratch`.
+#![tactic(auto)]
+
+pub mod blocks;
+pub mod combination;
+pub mod dense;
+pub mod dual;
+pub mod evidence;
+pub mod fault;
+pub mod kernel;
+pub mod places;
+pub mod rows;
+pub mod scratch;
+pub mod sparse;
+pub mod turned;
+pub mod vector;
+pub mod vectors;
+
+pub use blocks::{Blocks, DegreeBlock};
+pub use combination::check_combination;
+pub use dense::DenseRows;
+pub use dual::check_dual;
+pub use evidence::{CoverEvidence, KernelEvidence};
+pub use fault::RowFault;
+pub use kernel::check_kernel;
+pub use places::Places;
+pub use rows::{RowSpace, Rows};
+pub use scratch::Scratch;
+pub use sparse::SparseRows;
+pub use turned::Turned;
+pub use vector::{Entry, Vector};
+pub use vectors::Vectors;
+
+#[cfg(test)]
+mod tests;

@@ -1,0 +1,90 @@
+//! Rows of numbers of a field.
+ghost use Rattle.std.specs.Prelude.{◌≡◌, ℕ, ◌%◌, ◌<◌, ◌≤◌, OnOk, OnErr};
+ghost use Rattle.bmp_math.specs.Matrices.{Matrix, NumbersBelow, image};
+ghost use Rattle.bmp_linear.specs.SparseVectors.{FitsBelow, ValuesBelow, IsSpread, number_at};
+ghost use Rattle.bmp_linear.specs.RowChanges.{IsRowPushed, HoldsNumbers, IsRowAddedTo};
+
+use crate::vector::Vector;
+use bmp_field::Field;
+use std::alloc::AllocError;
+
+/// Rows of numbers of a field, all of one length: a matrix, in memory or as a view that keeps none.
+///
+/// The condition of every call that takes the field is that the numbers are below its size.
+pub trait Rows<F: Field> {
+    /// How many rows and columns there are, and the number at each.
+    ghost matrix: { Self → Matrix };
+
+    /// How many rows there are.
+    fn rows(&self) -> u32
+        ensures { result ≡ (matrix self.now).rows };
+
+    /// How many numbers a row has.
+    fn cols(&self) -> u32
+        ensures { result ≡ (matrix self.now).cols };
+
+    /// The number in the row `i` and the column `j`, as a value of the field.
+    fn at(&self, f: &F, i: u32, j: u32) -> F::E
+        requires numbers { NumbersBelow (F.size f.now) (matrix self.now) }
+        requires row { i < (matrix self.now).rows }
+        requires column { j < (matrix self.now).cols }
+        ensures value { F.is_value f.now result }
+        ensures number { F.num f.now result ≡ (matrix self.now).entry i j };
+
+    /// The row `i` times a vector: the sum over the columns of the products of their numbers.
+    fn value_at(&self, f: &F, i: u32, vector: &Vector) -> F::E
+        requires numbers { NumbersBelow (F.size f.now) (matrix self.now) }
+        requires row { i < (matrix self.now).rows }
+        requires fits { FitsBelow vector.now (matrix self.now).cols }
+        requires values { ValuesBelow vector.now (F.size f.now) }
+        ensures value { F.is_value f.now result }
+        ensures number { F.num f.now result ≡ image (matrix self.now) (number_at vector.now) i % F.size f.now }
+    {
+        let mut sum = f.zero();
+        for entry in vector.entries() {
+            let factor = f.from_num(u32::from(entry.value));
+            sum = f.add(sum, f.mul(factor, self.at(f, i, entry.place)));
+        }
+        sum
+    }
+
+    /// The same as `value_at`, where the vector's numbers are at hand as a row too. For rows that are
+    /// kept as entries.
+    fn value_at_spread(&self, f: &F, i: u32, vector: &Vector, spread: &[u8]) -> F::E
+        requires numbers { NumbersBelow (F.size f.now) (matrix self.now) }
+        requires row { i < (matrix self.now).rows }
+        requires fits { FitsBelow vector.now (matrix self.now).cols }
+        requires values { ValuesBelow vector.now (F.size f.now) }
+        requires spread { IsSpread vector.now (matrix self.now).cols spread.now }
+        ensures value { F.is_value f.now result }
+        ensures number { F.num f.now result ≡ image (matrix self.now) (number_at vector.now) i % F.size f.now }
+    {
+        let _ = spread;
+        self.value_at(f, i, vector)
+    }
+
+    /// Adds `c` times the row `i` to a row of numbers.
+    fn add_row_to(&self, f: &F, i: u32, c: F::E, sums: &mut [u8])
+        requires numbers { NumbersBelow (F.size f.now) (matrix self.now) }
+        requires row { i < (matrix self.now).rows }
+        requires factor { F.is_value f.now c }
+        requires sums { HoldsNumbers (F.size f.now) (matrix self.now).cols sums.old }
+        ensures { IsRowAddedTo (F.size f.now) (matrix self.now) i (F.num f.now c) sums.old sums.new }
+    {
+        for j in 0..self.cols() {
+            let sum = f.from_num(u32::from(sums[j as usize]));
+            let term = f.mul(c, self.at(f, i, j));
+            sums[j as usize] = f.num(f.add(sum, term)) as u8;
+        }
+    }
+}
+
+/// Rows in memory, which can be made longer.
+pub trait RowSpace<F: Field>: Rows<F> + Drop {
+    /// Appends a row. Wants memory also where there are 2^32 - 1 rows.
+    fn push_row(&mut self, f: &F, row: &Vector) -> Result<(), AllocError>
+        requires fits { FitsBelow row.now (Self.matrix self.old).cols }
+        requires values { ValuesBelow row.now (F.size f.now) }
+        ensures ok { OnOk result (IsRowPushed (Self.matrix self.old) (Self.matrix self.new) (number_at row.now)) }
+        ensures err { OnErr result (self.new ≡ self.old) };
+}

@@ -1,0 +1,126 @@
+//! A vector of numbers, kept as those that aren't 0.
+ghost use Rattle.std.specs.Prelude.{◌≡◌, ◌≢◌, ◌<◌, ◌↔◌, IsTrue, ℕ, All, [], ◌∷◌, ◌++◌, length, slice_get, slice_index, Some, EachIndex, OnOk, OnErr, IfOk};
+ghost use Rattle.bmp_linear.specs.SparseVectors.{IsSparse, FitsBelow, ValuesBelow, number_at};
+
+use crate::scratch::clear;
+use std::alloc::{AllocError, Global};
+use std::marker::Model;
+
+/// A number that isn't 0, and its place.
+#[derive(Clone, Copy, Debug, Default, PartialEq, Eq)]
+pub struct Entry {
+    pub place: u32,
+    pub value: u8,
+}
+
+/// The numbers of a vector that aren't 0, by rising place. Fewer than 2^32 of them.
+#[derive(Debug, Drop)]
+pub struct Vector {
+    entries: Vec<Entry>,
+}
+
+impl Model for Vector {
+    ghost use Rattle.std.specs.Prelude.{List, ◌^◌, ◌<◌, length};
+    ghost use Rattle.bmp_linear.specs.declared.vector.Entry.{Entry};
+    ghost use Rattle.bmp_linear.specs.SparseVectors.{IsSparse};
+
+    ghost Value = { List Entry };
+
+    ghost view = { λ v. v.entries.items };
+
+    ghost invariant = { λ v. (length v.entries.items < 2 ^ 32) × IsSparse v.entries.items };
+}
+
+impl Vector {
+    /// The vector whose numbers are all 0. Takes no memory.
+    pub fn new(alloc: Global) -> Vector
+        ensures { result ≡ [] }
+    {
+        Vector {
+            entries: Vec::new(alloc),
+        }
+    }
+
+    /// The vector whose numbers are all 0, with room for `capacity` entries.
+    pub fn with_capacity(alloc: Global, capacity: usize) -> Result<Vector, AllocError>
+        ensures { IfOk result (λ vector. vector ≡ []) }
+    {
+        Ok(Vector {
+            entries: Vec::with_capacity(alloc, capacity)?,
+        })
+    }
+
+    /// How many entries there are.
+    pub fn len(&self) -> u32
+        ensures { result ≡ length self.now }
+    {
+        self.entries.len() as u32
+    }
+
+    /// The entry number `i`, from 0 on.
+    pub fn at(&self, i: u32) -> Entry
+        requires { i < length self.now }
+        ensures { slice_get self.now i ≡ Some result }
+    {
+        self.entries[i as usize]
+    }
+
+    /// Appends an entry whose place is greater than all before, and whose value isn't 0. Wants memory
+    /// also where there are 2^32 - 1 entries.
+    pub fn push(&mut self, item: Entry) -> Result<(), AllocError>
+        requires after { FitsBelow self.old item.place }
+        requires not_zero { item.value ≢ 0 }
+        ensures ok { OnOk result (self.new ≡ self.old ++ item ∷ []) }
+        ensures err { OnErr result (self.new ≡ self.old) }
+    {
+        if self.len() == u32::MAX {
+            return Err(AllocError);
+        }
+        self.entries.push(item)?;
+        Ok(())
+    }
+
+    /// An equal vector.
+    pub fn copy(&self) -> Result<Vector, AllocError>
+        ensures { IfOk result (λ copy. copy ≡ self.now) }
+    {
+        Ok(Vector {
+            entries: self.entries.clone()?,
+        })
+    }
+
+    /// The entries: their places rise, and no value is 0.
+    pub fn entries(&self) -> &[Entry]
+        ensures items { result.now ≡ self.now }
+        ensures sparse { IsSparse result.now }
+    {
+        self.entries.as_slice()
+    }
+
+    /// Whether the places are below `n`.
+    pub fn fits(&self, n: u32) -> bool
+        ensures { IsTrue result ↔ FitsBelow self.now n }
+    {
+        self.entries().iter().all(|entry| entry.place < n)
+    }
+
+    /// Whether the values are below `p`.
+    pub fn is_below(&self, p: u32) -> bool
+        ensures { IsTrue result ↔ ValuesBelow self.now p }
+    {
+        self.entries()
+            .iter()
+            .all(|entry| u32::from(entry.value) < p)
+    }
+
+    /// Writes all the numbers, 0s too.
+    pub fn spread(&self, into: &mut [u8])
+        requires { FitsBelow self.now (length into.old) }
+        ensures { EachIndex into.new (λ j. slice_index into.new j ≡ number_at self.now j) }
+    {
+        clear(into);
+        for entry in self.entries() {
+            into[entry.place as usize] = entry.value;
+        }
+    }
+}

@@ -1,0 +1,17 @@
+pub mod PlaceLemmas
+pub mod MonomialLemmas
+pub mod ShiftLemmas
+pub mod ShiftedMultiples
+pub mod LabelLemmas
+pub mod NormalForms
+pub mod Reducing
+pub mod MonomialsLemmas
+pub mod Scanning
+pub mod CoefficientLemmas
+pub mod Multiples
+pub mod Replacing
+pub mod Multiplying
+pub mod Turns
+pub mod ListingLemmas
+pub mod ProductLemmas
+pub mod LawLemmas

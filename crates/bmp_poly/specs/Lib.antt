@@ -1,0 +1,12 @@
+pub mod Exponents
+pub mod Forms
+pub mod Shifts
+pub mod Products
+pub mod Listings
+pub mod Monomials
+pub mod Steps
+pub mod Coefficients
+pub mod Polynomials
+pub mod Coordinates
+pub mod Labels
+pub mod Statements

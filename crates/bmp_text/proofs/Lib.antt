@@ -1,0 +1,10 @@
+pub mod DigitLemmas
+pub mod CutLemmas
+pub mod WordLemmas
+pub mod NumeralLemmas
+pub mod QuickLemmas
+pub mod Pairs
+pub mod LinePairs
+pub mod Loops
+pub mod PrintingLoops
+pub mod PlaceLemmas

@@ -1,0 +1,9 @@
+pub mod ActionLemmas
+pub mod LengthLemmas
+pub mod ExchangeLemmas
+pub mod ReflectionLemmas
+pub mod DescentLemmas
+pub mod PlaceLemmas
+pub mod ReflectingLemmas
+pub mod ElementLemmas
+pub mod CallLemmas

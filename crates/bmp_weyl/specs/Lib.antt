@@ -1,0 +1,5 @@
+pub mod Words
+pub mod Statements
+pub mod Matrices
+pub mod Elements
+pub mod ElementStatements
