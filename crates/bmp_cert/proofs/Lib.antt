@@ -1,0 +1,9 @@
+pub mod AnswerLemmas
+pub mod RowLemmas
+pub mod JobPairs
+pub mod CertPairs
+pub mod JobPrinting
+pub mod VectorLemmas
+pub mod CountLemmas
+pub mod RuleLemmas
+pub mod CertPrinting

@@ -1,0 +1,43 @@
+-- The numbers of generators of a certificate's vertices.
+--   part_of c x              the part of the vertex x; the parts begin with the greatest vertex
+--   generator_count c x d    how many generators of degree d the vertex x has
+--   RankTable                what contracts see of ranks: for each vertex and each degree a number
+--   rank_in r x d            the number for the vertex x and the degree d
+--   IsRanksOf c r            r has the vertices, the degree bound and the numbers of c
+--   counts_below, all_counts the numbers of one vertex, and of the first vertices, one behind the other
+use Rattle.std.specs.Prelude.{◌≡◌, ◌<◌, ◌≤◌, ◌+◌, ◌*◌, ◌-◌, ◌++◌, ℕ, zero, suc, List, [], ◌∷◌, length, slice_index_or}
+use Rattle.bmp_cert.specs.declared.cert.VertexPart.{VertexPart}
+use Rattle.bmp_cert.specs.declared.cert.Cert.{Cert}
+use Rattle.bmp_cert.specs.Degrees.{count_at}
+
+abbrev pub no_part : VertexPart
+no_part = record { degrees = []; edges = 0; lifts = []; blocks = [] }
+
+abbrev pub part_of : Cert → ℕ → VertexPart
+part_of c x = slice_index_or c.vertices (length c.vertices - 1 - x) no_part
+
+abbrev pub generator_count : Cert → ℕ → ℕ → ℕ
+generator_count c x d = count_at (part_of c x).degrees d
+
+pub record RankTable : Type 0 where
+  pub vertices : ℕ
+  pub degree : ℕ
+  pub numbers : List ℕ  -- by vertex, then by degree
+
+abbrev pub rank_in : RankTable → ℕ → ℕ → ℕ
+rank_in r x d = slice_index_or r.numbers (x * (r.degree + 1) + d) 0
+
+pub record IsRanksOf (c : Cert) (r : RankTable) : Type 0 where
+  pub vertices : r.vertices ≡ length c.vertices
+  pub degree : r.degree ≡ c.job.degree
+  pub numbers : (x d : ℕ) → x < length c.vertices → d ≤ c.job.degree → rank_in r x d ≡ generator_count c x d
+
+-- ---- as a list
+
+abbrev pub counts_below : List ℕ → ℕ → List ℕ
+counts_below degrees zero = []
+counts_below degrees (suc d) = counts_below degrees d ++ count_at degrees d ∷ []
+
+abbrev pub all_counts : Cert → ℕ → List ℕ
+all_counts c zero = []
+all_counts c (suc x) = all_counts c x ++ counts_below (part_of c x).degrees (c.job.degree + 1)

@@ -1,0 +1,9 @@
+pub mod Answers
+pub mod Degrees
+pub mod JobGrammar
+pub mod VectorGrammar
+pub mod BlockGrammar
+pub mod CertGrammar
+pub mod Counts
+pub mod JobRules
+pub mod NotBuilt

@@ -1,0 +1,38 @@
+//! Jobs and certificates: their types, their texts, and the rules of a job.
+//!
+//! A job is a Cartan matrix, a prime, a word and a degree bound. A certificate is a job with the part of each
+//! vertex: the degrees of its generators, the lifts on its edges, and the evidence of each degree.
+//! The grammar of both texts stands in `specs/` as readers (which give a value, or the first fault) with
+//! printed forms (JobGrammar, VectorGrammar, BlockGrammar, CertGrammar); `laws` says that each well formed
+//! value has one text, and each text one value.
+#![tactic(auto)]
+
+mod block;
+mod built;
+mod cert;
+mod cert_print;
+mod fault;
+mod job;
+mod job_reader;
+pub mod laws;
+mod lists;
+mod part;
+mod print;
+mod ranks;
+mod rules;
+mod vector;
+
+pub use built::is_not_built;
+pub use cert::{Cert, Parts, VertexPart, read_cert};
+pub use cert_print::{print_cert, push_parts};
+pub use fault::CertError;
+pub use job::Job;
+pub use job_reader::{read_job, read_job_lines};
+pub use lists::{Degrees, Entries};
+pub use part::read_parts;
+pub use print::{print_job, push_job_lines};
+pub use ranks::Ranks;
+pub use rules::{JobFault, check_rules};
+
+#[cfg(test)]
+mod tests;

@@ -1,0 +1,109 @@
+//! Vectors and rising places of a text, read.
+ghost use Rattle.std.specs.Prelude.{◌≡◌, ◌<◌, ◌≤◌, ◌^◌, ◌+◌, IfOk};
+ghost use Rattle.bmp_text.specs.Cursor.{natural};
+ghost use Rattle.bmp_text.specs.Readers.{chain, line};
+ghost use Rattle.bmp_cert.specs.Answers.{Gives};
+ghost use Rattle.bmp_cert.specs.VectorGrammar.{MOST, entry, behind_place, vector, vectors, rising_places};
+
+use crate::CertError;
+use bmp_linear::{Entry, Places, Vector, Vectors};
+use bmp_text::{Line, Lines};
+use std::alloc::Global;
+
+/// The greatest count and the greatest place, 2^32 - 1.
+pub(crate) const GREATEST: u64 = 4_294_967_295;
+
+// An entry takes four bytes of text at least, and a place two.
+const ENTRY_SIZE: usize = 4;
+
+const PLACE_SIZE: usize = 2;
+
+// One entry, whose place is `next` at least.
+fn entry_of(line: &mut Line, next: u64, most: u8) -> Result<Entry, CertError>
+    requires { next < 2 ^ 63 }
+    ensures gives { Gives (λ e. e) line.new result (entry most next line.old) }
+    ensures within { IfOk result (λ e. (next ≤ e.place) × (1 ≤ e.value)) }
+{
+    let place = line.natural(next, GREATEST)?;
+    let value = line.natural(1, u64::from(most))?;
+    Ok(Entry {
+        place: place as u32,
+        value: value as u8,
+    })
+}
+
+// So many entries.
+fn entries_of(alloc: Global, line: &mut Line, count: u64, most: u8) -> Result<Vector, CertError>
+    ensures { Gives (λ v. v) line.new result (chain (entry most) behind_place count 0 line.old) }
+{
+    let mut entries = Vector::with_capacity(alloc, line.room(count, ENTRY_SIZE))?;
+    let mut next: u64 = 0;
+    'entries: for _ in 0..count {
+        let entry = entry_of(line, next, most)?;
+        entries.push(entry)?;
+        next = u64::from(entry.place) + 1;
+    }
+    Ok(entries)
+}
+
+// A count, and as many entries.
+#[tactic(auto, unfolding(bmp_text::specs::Readers::counted_chain))]
+fn vector_of(alloc: Global, line: &mut Line, most: u8) -> Result<Vector, CertError>
+    ensures { Gives (λ v. v) line.new result (vector most line.old) }
+{
+    let count = line.natural(0, GREATEST)?;
+    entries_of(alloc, line, count, most)
+}
+
+// A line of a keyword and a vector.
+#[tactic(auto, unfolding(bmp_text::specs::Readers::line))]
+fn vector_line(alloc: Global, lines: &mut Lines, word: &[u8], most: u8) -> Result<Vector, CertError>
+    ensures { Gives (λ v. v) lines.new result (line word.now (vector most) lines.old) }
+{
+    let mut line = lines.next_line()?;
+    line.keyword(word)?;
+    let vector = vector_of(alloc, &mut line, most)?;
+    line.finish()?;
+    Ok(vector)
+}
+
+/// `count` lines of a keyword and a vector with values from 1 to `most`.
+pub(crate) fn vectors_of(
+    alloc: Global,
+    lines: &mut Lines,
+    word: &[u8],
+    most: u8,
+    count: u64,
+) -> Result<Vectors, CertError>
+    ensures { Gives (λ v. v) lines.new result (vectors word.now most count lines.old) }
+{
+    let mut list = Vectors::new(alloc);
+    'vectors: for _ in 0..count {
+        let vector = vector_line(alloc, lines, word, most)?;
+        list.push(vector)?;
+    }
+    Ok(list)
+}
+
+// One place, `next` at least.
+fn place_of(line: &mut Line, next: u64) -> Result<u32, CertError>
+    requires { next < 2 ^ 63 }
+    ensures { Gives (λ n. n) line.new result (natural next MOST line.old) }
+{
+    let place = line.natural(next, GREATEST)?;
+    Ok(place as u32)
+}
+
+/// `count` places that rise.
+pub(crate) fn places_of(alloc: Global, line: &mut Line, count: u64) -> Result<Places, CertError>
+    ensures { Gives (λ v. v) line.new result (rising_places count line.old) }
+{
+    let mut places = Places::with_capacity(alloc, line.room(count, PLACE_SIZE))?;
+    let mut next: u64 = 0;
+    'places: for _ in 0..count {
+        let place = place_of(line, next)?;
+        places.push(place)?;
+        next = u64::from(place) + 1;
+    }
+    Ok(places)
+}

@@ -1,0 +1,4 @@
+pub mod BradenMacPherson
+pub mod Counts
+pub mod Examples
+pub mod Kinds

@@ -1,0 +1,8 @@
+//! What a Braden-MacPherson sheaf is and what its generators count, with the smallest examples; and the kinds of comparisons that a check
+//! makes.
+#![tactic(auto)]
+
+pub mod examples;
+mod kind;
+
+pub use kind::Kind;

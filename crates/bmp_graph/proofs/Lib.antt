@@ -1,0 +1,4 @@
+pub mod BitLemmas
+pub mod GraphLemmas
+pub mod TableLemmas
+pub mod GkmLemmas

@@ -1,0 +1,4 @@
+pub mod CommandLine
+pub mod Reports
+pub mod Runs
+pub mod Headline

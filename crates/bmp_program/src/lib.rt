@@ -1,0 +1,12 @@
+//! The program: what its words ask for, the report that answers them, and the call that writes it.
+#![tactic(auto)]
+
+mod answer;
+mod check;
+pub mod laws;
+mod program;
+mod status;
+mod words;
+
+pub use program::run;
+pub use status::Status;

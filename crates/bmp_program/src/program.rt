@@ -1,0 +1,80 @@
+//! The top call.
+ghost use Rattle.std.specs.Prelude.{◌≡◌, ◌≢◌, ⊤, Some, None, map, string_bytes};
+ghost use Rattle.bmp_ports.specs.Ports.{Rose, IsAtEnd, Takes};
+ghost use Rattle.bmp_program.specs.CommandLine.{asked};
+ghost use Rattle.bmp_program.specs.Headline.{IsCertified};
+ghost use Rattle.bmp_program.specs.Reports.{IsReport, read_fault_line};
+ghost use Rattle.bmp_program.specs.Runs.{IsDecided, IsReported, WritesReport, WritesPrefix, answer_view};
+
+use crate::Status;
+use crate::answer::{Answer, bytes_of, fixed};
+use crate::check::check;
+use crate::words::{CommandWord, WordsError, read_words};
+use bmp_ports::{Sink, Source, WriteError, write_all};
+use std::alloc::Global;
+use std::thread::Threads;
+
+// What the words and the input are answered with.
+#[tactic(auto, unfolding(crate::specs::Reports::IsReport))]
+fn decide<S: Source>(alloc: Global, words: &[String], source: &mut S) -> Answer
+    ensures answer { IsDecided (IsReport (map string_bytes words.now)) (S.left source.old)
+        (Rose (S.faults source.old) (S.faults source.new)) (answer_view result) }
+    ensures end { (answer_view result).status ≡ Status.Done → IsAtEnd (S.left source.new) }
+    ensures unread { asked (map string_bytes words.now) ≡ None → source.new ≡ source.old }
+{
+    let request = match read_words(alloc, words) {
+        Ok(request) => request,
+        Err(WordsError::Usage) => return fixed(Status::Usage, b"usage\n"),
+        Err(WordsError::Memory) => return fixed(Status::NoMemory, b"no memory\n"),
+    };
+    match request.command {
+        CommandWord::Check => check(alloc, source),
+    }
+}
+
+/// Does all that the program does: reads the words, and the input where the command reads it, and writes the text of
+/// the report on them, whose status it answers.
+///
+/// `ReadFault` comes only where the source's count of faults rose, `WriteFault` only where the sink's did, and
+/// `NoMemory` wherever memory is wanting. Every other status comes exactly where words and input are reported with it
+/// (`IsReport`, by which they have one status at most). The first word is the program's name.
+pub fn run<S: Source, K: Sink>(
+    rt: &(impl Threads + Sync),
+    alloc: Global,
+    words: &[String],
+    source: &mut S,
+    sink: &mut K,
+) -> Status
+    ensures reported { IsReported result →
+        WritesReport (IsReport (map string_bytes words.now)) (S.left source.old)
+        (K.taken sink.old) (K.taken sink.new) result }
+
+    // A fault has its cause. What is written then is the line of the read fault, or a prefix of what was to be written.
+    ensures read_fault { result ≡ Status.ReadFault → Rose (S.faults source.old) (S.faults source.new) }
+    ensures read_fault_line { result ≡ Status.ReadFault → Takes (K.taken sink.old) (K.taken sink.new) read_fault_line }
+    ensures write_fault { result ≡ Status.WriteFault → Rose (K.faults sink.old) (K.faults sink.new) }
+    ensures write_fault_prefix { result ≡ Status.WriteFault →
+        WritesPrefix (IsReport (map string_bytes words.now)) (S.left source.old)
+        (Rose (S.faults source.old) (S.faults source.new))
+        (K.taken sink.old) (K.taken sink.new) (λ s. s ≢ Status.NoMemory) }
+    ensures no_memory_prefix { result ≡ Status.NoMemory →
+        WritesPrefix (IsReport (map string_bytes words.now)) (S.left source.old)
+        (Rose (S.faults source.old) (S.faults source.new))
+        (K.taken sink.old) (K.taken sink.new) (λ _. ⊤) }
+
+    // The words alone decide on a usage line; with status 0 all was read.
+    ensures unread { asked (map string_bytes words.now) ≡ None → source.new ≡ source.old }
+    ensures end { result ≡ Status.Done → IsAtEnd (S.left source.new) }
+
+    // The headline.
+    ensures certified { asked (map string_bytes words.now) ≡ Some CommandWord.Check → result ≡ Status.Done →
+        IsCertified (S.left source.old) (K.taken sink.old) (K.taken sink.new) }
+{
+    let _ = rt;
+    let answer = decide(alloc, words, source);
+    match write_all(sink, bytes_of(&answer)) {
+        Ok(()) => answer.status,
+        Err(WriteError::Failed) if answer.status != Status::NoMemory => Status::WriteFault,
+        Err(_) => Status::NoMemory,
+    }
+}

@@ -1,0 +1,2 @@
+pub mod RankLines
+pub mod FaultLines

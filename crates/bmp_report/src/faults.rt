@@ -1,0 +1,103 @@
+//! The lines of faults.
+ghost use Rattle.std.specs.Prelude.{◌≡◌, ◌≤◌, ◌++◌, ◌∷◌, IfOk, OnOk};
+ghost use Rattle.std.specs.Fmt.{signed_decimal};
+ghost use Rattle.bmp_report.specs.FaultLines.{text_fault_line, cartan_text, limit_name, coordinates_text, finite_text, job_fault_line, HasCoordinates};
+
+use bmp_cert::JobFault;
+use bmp_roots::{CartanFault, FiniteKind, NotFinite};
+use bmp_text::{TextFault, push_int, push_number};
+use std::alloc::{AllocError, Global};
+
+/// The line of a text fault: `text line N kind K`.
+pub fn text_line(alloc: Global, fault: &TextFault) -> Result<Vec<u8>, AllocError>
+    ensures { IfOk result (λ v. v.items ≡ text_fault_line fault.now) }
+{
+    let mut out = Vec::new(alloc);
+    out.extend_from_slice(b"text line")?;
+    push_number(&mut out, fault.line)?;
+    out.extend_from_slice(b" kind ")?;
+    out.extend_from_slice(fault.kind.name().as_bytes())?;
+    out.push(b'\n')?;
+    Ok(out)
+}
+
+// What breaks the rules of a Cartan matrix.
+fn push_cartan(out: &mut Vec<u8>, fault: &CartanFault) -> Result<(), AllocError>
+    ensures { OnOk result (out.new.items ≡ out.old.items ++ cartan_text fault.now) }
+{
+    match *fault {
+        CartanFault::BadRank => out.extend_from_slice(b"job cartan rank"),
+        CartanFault::BadDiagonal { i } => {
+            out.extend_from_slice(b"job cartan diagonal")?;
+            push_number(out, u64::from(i))
+        }
+        CartanFault::BadOffDiagonal { i, j } => {
+            out.extend_from_slice(b"job cartan off-diagonal")?;
+            push_number(out, u64::from(i))?;
+            push_number(out, u64::from(j))
+        }
+        CartanFault::UnpairedZero { i, j } => {
+            out.extend_from_slice(b"job cartan unpaired-zero")?;
+            push_number(out, u64::from(i))?;
+            push_number(out, u64::from(j))
+        }
+    }
+}
+
+// The name of a limit.
+fn limit_name(kind: FiniteKind) -> &'static str
+    ensures { result.now ≡ limit_name kind }
+{
+    match kind {
+        FiniteKind::Pairs => "pairs",
+        FiniteKind::Coordinate => "coordinate",
+        FiniteKind::Sign => "sign",
+    }
+}
+
+// A coordinate behind a space.
+fn push_coordinate(out: &mut Vec<u8>, coordinate: &i16) -> Result<(), AllocError>
+    ensures { OnOk result (out.new.items ≡ out.old.items ++ (32 ∷ signed_decimal coordinate.now)) }
+{
+    out.push(b' ')?;
+    push_int(out, i128::from(*coordinate))
+}
+
+// Coordinates, each behind a space.
+fn push_coordinates(out: &mut Vec<u8>, coordinates: &[i16]) -> Result<(), AllocError>
+    ensures { OnOk result (out.new.items ≡ out.old.items ++ coordinates_text coordinates.now) }
+{
+    'coordinates: for coordinate in coordinates {
+        push_coordinate(out, coordinate)?;
+    }
+    Ok(())
+}
+
+// The pair of roots that breaks a limit, by the coordinates of its root.
+fn push_finite(out: &mut Vec<u8>, rank: u8, fault: &NotFinite) -> Result<(), AllocError>
+    requires { rank ≤ 6 }
+    ensures { OnOk result (out.new.items ≡ out.old.items ++ finite_text rank fault.now) }
+{
+    out.extend_from_slice(b"job finite ")?;
+    out.extend_from_slice(limit_name(fault.kind).as_bytes())?;
+    push_coordinates(out, &fault.root[..rank as usize])
+}
+
+/// The line of a job's fault, as `job cartan diagonal I` or `job prime P`. The rank is the number of
+/// coordinates of a root that breaks a limit.
+pub fn job_line(alloc: Global, rank: u8, fault: &JobFault) -> Result<Vec<u8>, AllocError>
+    requires { HasCoordinates rank fault.now }
+    ensures { IfOk result (λ v. v.items ≡ job_fault_line rank fault.now) }
+{
+    let mut out = Vec::new(alloc);
+    match fault {
+        JobFault::Cartan(fault) => push_cartan(&mut out, fault)?,
+        JobFault::Finite(fault) => push_finite(&mut out, rank, fault)?,
+        JobFault::Prime(prime) => {
+            out.extend_from_slice(b"job prime")?;
+            push_number(&mut out, u64::from(*prime))?;
+        }
+    }
+    out.push(b'\n')?;
+    Ok(out)
+}

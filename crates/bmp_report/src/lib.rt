@@ -1,0 +1,15 @@
+//! The lines that the program prints: ranks, and the faults of texts and jobs.
+//!
+//! Each item is one line that ends with a line feed; numbers are canonical, and words are separated by
+//! single spaces. Each call gives exactly the text that `specs/` defines.
+#![tactic(auto)]
+
+mod faults;
+pub mod laws;
+mod ranks;
+
+pub use faults::{job_line, text_line};
+pub use ranks::ranks_text;
+
+#[cfg(test)]
+mod tests;

@@ -1,0 +1,4 @@
+pub mod ProductLemmas
+pub mod ExtensionLemmas
+pub mod CoordinateLemmas
+pub mod StalkPlaces

@@ -1,0 +1,4 @@
+pub mod Elements
+pub mod Sheaves
+pub mod Coordinates
+pub mod Statements

@@ -1,0 +1,13 @@
+//! Tests that cross crates: the top call on whole texts, words, sources and sinks.
+#![tactic(auto)]
+
+#[cfg(test)]
+mod faults;
+#[cfg(test)]
+mod inputs;
+#[cfg(test)]
+mod runs;
+#[cfg(test)]
+mod texts;
+#[cfg(test)]
+mod words;

@@ -1,0 +1,52 @@
+//! What the tests share: runs of the top call over ports in memory.
+use bmp_ports::{MemSink, MemSource};
+use bmp_program::{Status, run};
+use std::alloc::{AllocError, Global};
+use std::process::Abort;
+use std::test::Fail;
+use std::thread::Threads;
+
+/// The words of a command line, behind the program's name.
+pub fn words_of(alloc: Global, line: &str) -> Result<Vec<String>, AllocError> {
+    let mut words = Vec::new(alloc);
+    words.push(String::from_str(alloc, "bmp")?)?;
+    for word in line.split(' ') {
+        words.push(String::from_str(alloc, word)?)?;
+    }
+    Ok(words)
+}
+
+/// Asserts how a command line ends on an input, and what it writes, where nothing fails.
+pub fn assert_run(
+    rt: &(impl Abort + Threads + Sync),
+    alloc: Global,
+    line: &str,
+    input: &str,
+    status: Status,
+    written: &str,
+) -> Result<(), Fail> {
+    let words = words_of(alloc, line)?;
+    let bytes = Vec::from_slice(alloc, input.as_bytes())?;
+    let mut source = MemSource::new(bytes, usize::MAX, Vec::new(alloc));
+    let mut sink = MemSink::new(alloc, usize::MAX, Vec::new(alloc));
+    let ended = run(rt, alloc, &words, &mut source, &mut sink);
+    assert_eq!(rt; ended, status, "at {line}: {input}");
+    assert_eq!(rt; sink.bytes(), written.as_bytes(), "at {line}: {input}");
+    Ok(())
+}
+
+/// The text with another line at one place, counted from 1.
+pub fn with_line(
+    alloc: Global,
+    text: &str,
+    place: usize,
+    line: &str,
+) -> Result<String, AllocError> {
+    let mut changed = String::new(alloc);
+    for (index, old) in text.lines().enumerate() {
+        let is_there = place.checked_sub(1) == Some(index);
+        changed.push_str(if is_there { line } else { old })?;
+        changed.push('\n')?;
+    }
+    Ok(changed)
+}

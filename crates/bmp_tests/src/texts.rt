@@ -1,0 +1,40 @@
+//! Texts that the tests run on.
+
+/// A point: rank 1, the empty word.
+pub const POINT: &str = "\
+bmp-cert 1
+rank 1
+row 2
+prime 2
+word 0
+degree 0
+vertices 1
+vertex 0 1 0
+end
+";
+
+/// A line: rank 1, the word of one letter, up to degree 1.
+pub const LINE: &str = "\
+bmp-cert 1
+rank 1
+row 2
+prime 2
+word 1 1
+degree 1
+vertices 2
+vertex 1 1 0
+vertex 0 1 0
+edges 1
+lift 1 0 1
+block 0 0 1
+pivots
+tuple 1 0 1
+cover 1 0 1
+source 1 0 1
+dual 1 0 1
+block 1 0 1
+pivots
+tuple 1 0 1
+cover 0
+end
+";
