@@ -1,25 +1,22 @@
 -- The certificate's parts as pairs of a reader and a printed form.
-use Rattle.std.proofs.Common.{◌≡◌, ℕ, zero, suc, ◌+◌, ◌-◌, ◌==◌, ◌*◌, ◌^◌, ◌<◌, ◌≤◌, List, [], ◌∷◌, ◌++◌, length, Result, Ok, Err, refl, sym, ap, ap₂, subst, ◌∙◌, append_assoc, arith, rules, codes}
-use Rattle.std.specs.List.{AllByRecursion}
+use Rattle.std.proofs.Common.{◌≡◌, ℕ, ◌+◌, ◌-◌, ◌==◌, ◌*◌, ◌^◌, ◌<◌, ◌≤◌, List, [], ◌∷◌, length, refl, ap, ap₂, arith, rules, codes}
 use Rattle.std.proofs.lemmas.List.{append-nil}
 use Rattle.std.specs.Fmt.{decimal}
-use Rattle.bmp_text.specs.declared.fault.TextFault.{TextFault}
 use Rattle.bmp_cert.proofs.JobPairs.{job_lines_pair}
 use Rattle.bmp_cert.specs.BlockGrammar.{sizes, sizes_text, AreSizes, block, block_text, IsBlock}
 use Rattle.bmp_cert.specs.CertGrammar.{from_degree, step_up, step_down, degrees, degrees_text, AreDegrees, vertex_words, vertex_text, top, top_text, IsTop, part, part_text, IsPart, part_at, part_at_text, IsPartAt, parts, parts_text, AreParts, part_lines, part_lines_text, HavePartLines, cert, cert_text, IsWellFormed}
 use Rattle.bmp_cert.specs.Degrees.{count_at}
-use Rattle.bmp_cert.specs.JobGrammar.{job_lines, IsWellFormedJob}
 use Rattle.bmp_cert.specs.VectorGrammar.{MOST, entry, entry_text, IsEntry, behind_place, vector, vector_text, IsVector, vectors, vectors_text, AreVectors, rising_places, rising_text, AreRising}
 use Rattle.bmp_cert.specs.declared.cert.Cert.{Cert}
 use Rattle.bmp_cert.specs.declared.cert.VertexPart.{VertexPart}
 use Rattle.bmp_linear.specs.declared.vector.Entry.{Entry}
 use Rattle.bmp_linear.specs.declared.blocks.DegreeBlock.{DegreeBlock}
-use Rattle.bmp_text.proofs.LinePairs.{IsAny, IsFrom, number_pair, natural_pair, counted_pair, line_pair, single_pair, nothing_pair}
+use Rattle.bmp_text.proofs.LinePairs.{IsAny, IsFrom, natural_pair, counted_pair, line_pair, single_pair, nothing_pair}
 use Rattle.bmp_text.proofs.Pairs.{Pair, give_pair, after_pair, pair_as, chain_pair, chain_pair_while, cond_pair}
 use Rattle.bmp_text.proofs.WordLemmas.{IsPlainWord}
-use Rattle.bmp_text.specs.Cursor.{Cursor, natural}
-use Rattle.bmp_text.specs.Printing.{line_text, chain_text, counted_text, ChainFits, CountedFits, single_text}
-use Rattle.bmp_text.specs.Readers.{after, give, chain, counted_chain, line, whole, nothing, same, single}
+use Rattle.bmp_text.specs.Cursor.{natural}
+use Rattle.bmp_text.specs.Printing.{line_text, chain_text, ChainFits}
+use Rattle.bmp_text.specs.Readers.{chain, line, nothing, same}
 
 entry_pair : (most next : ℕ) → most < 2 ^ 63 → Pair IsPlainWord (entry most next) (entry_text next) (IsEntry most next)
 entry_pair most next small = pair_as IsPlainWord (entry most next) _ (entry_text next) _ (IsEntry most next) (λ e. refl) (λ e h. (h.0.0, h.0.1, h.1.0.0, h.1.0.1)) (λ e h. ((h.0, h.1), ((h.2, h.3), refl)))

@@ -1,11 +1,11 @@
 -- The list of all numbers of generators, and its members.
-use Rattle.std.proofs.Common.{◌≡◌, ℕ, zero, suc, ◌+◌, ◌*◌, ◌-◌, ◌<◌, ◌≤◌, List, [], ◌∷◌, ◌++◌, length, get_or, inl, inr, refl, sym, ap, ◌∙◌, arith, append_assoc}
+use Rattle.std.proofs.Common.{◌≡◌, ℕ, zero, suc, ◌+◌, ◌*◌, ◌-◌, ◌<◌, ◌≤◌, List, [], ◌∷◌, length, get_or, inl, inr, refl, ap, ◌∙◌, arith}
 use Rattle.std.proofs.lemmas.Bool.{cases_lt}
 use Rattle.std.proofs.lemmas.List.{length-append, get_or_append_left, get_or-append_right}
 use Rattle.std.proofs.lemmas.Nat.{mul-le}
 use Rattle.bmp_cert.specs.declared.cert.Cert.{Cert}
 use Rattle.bmp_cert.specs.Degrees.{count_at}
-use Rattle.bmp_cert.specs.Counts.{RankTable, part_of, generator_count, rank_in, IsRanksOf, counts_below, all_counts}
+use Rattle.bmp_cert.specs.Counts.{RankTable, part_of, generator_count, IsRanksOf, counts_below, all_counts}
 
 pub place_below : (x v d g : ℕ) → x < v → d < g → x * g + d < v * g
 place_below x v d g h k =

@@ -1,9 +1,7 @@
 -- The job lines as a pair of a reader and a printed form.
-use Rattle.std.proofs.Common.{◌≡◌, ℕ, ℤ, pos, negsuc, zero, suc, ◌+◌, ◌*◌, ◌^◌, ◌<◌, ◌≤◌, List, [], ◌∷◌, ◌++◌, length, Result, Ok, Err, refl, sym, ap, ap₂, subst, ◌∙◌, append_assoc, arith, rules, codes, true}
-use Rattle.std.specs.List.{AllByRecursion}
-use Rattle.std.proofs.lemmas.List.{append-nil, take_at, drop_at, length-append}
+use Rattle.std.proofs.Common.{◌≡◌, ℕ, pos, negsuc, ◌≤◌, List, [], ◌∷◌, ◌++◌, refl, sym, ap, ◌∙◌, arith, rules, codes}
+use Rattle.std.proofs.lemmas.List.{append-nil}
 use Rattle.std.specs.Fmt.{decimal, signed_decimal}
-use Rattle.bmp_text.specs.declared.fault.TextFault.{TextFault}
 use Rattle.bmp_cert.specs.JobGrammar.{entries, letters, rows, job_lines, job, row_text, word_text, with_row, cut_rows, row_lists, row_lists_text, rows_text, job_lines_text, job_text, AreEntries, AreLetters, IsWellFormedJob}
 use Rattle.bmp_cert.proofs.RowLemmas.{IsRow, AreRowLists, all_from_chain, chain_from_all, cut_rows_again, entries_from_rows, rows_from_entries}
 use Rattle.std.proofs.lemmas.List.Elements.{All-weaker}
@@ -11,10 +9,10 @@ use Rattle.bmp_cert.specs.declared.job.Job.{Job}
 use Rattle.bmp_text.proofs.LinePairs.{IsAny, IsFrom, number_pair, natural_pair, counted_pair, line_pair, single_pair, nothing_pair}
 use Rattle.bmp_text.proofs.Pairs.{Pair, give_pair, after_pair, pair_as, chain_pair}
 use Rattle.bmp_text.proofs.WordLemmas.{IsPlainWord}
-use Rattle.bmp_text.specs.Cursor.{Cursor, ◌>>=◌, number, natural}
+use Rattle.bmp_text.specs.Cursor.{number, natural}
 use Rattle.bmp_text.specs.Numerals.{InRange}
-use Rattle.bmp_text.specs.Printing.{line_text, chain_text, counted_text, ChainFits, CountedFits, single_text}
-use Rattle.bmp_text.specs.Readers.{fold_onto, onto, after, give, chain, counted_chain, line, whole, nothing, same, single}
+use Rattle.bmp_text.specs.Printing.{line_text, chain_text, counted_text, CountedFits, single_text}
+use Rattle.bmp_text.specs.Readers.{fold_onto, line, nothing, same}
 
 pub row_pair : (rank : ℕ) → Pair IsAny (line (codes "row") (entries rank)) row_text (IsRow rank)
 row_pair rank = line_pair (codes "row") (entries rank) (chain_text (λ (s : Unit {0}) z. signed_decimal z ∷ []) same tt) (IsRow rank) (search rules)

@@ -1,5 +1,4 @@
 -- A first fault of a job breaks the rules.
-use Rattle.std.proofs.Common.{◌≡◌, ℕ, ◌≢◌}
 use Rattle.bmp_roots.specs.declared.cartan_matrix.CartanFault.{CartanFault}
 use Rattle.bmp_roots.specs.declared.cartan_matrix.CartanFault.TheVariants.{BadRank, BadDiagonal, BadOffDiagonal, UnpairedZero}
 use Rattle.bmp_roots.specs.CartanRules.{BreaksFirst}

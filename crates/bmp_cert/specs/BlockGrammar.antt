@@ -6,7 +6,7 @@ use Rattle.std.specs.Prelude.{◌≤◌, ℕ, List, [], ◌∷◌, ◌++◌, len
 use Rattle.std.specs.Fmt.{decimal}
 use Rattle.bmp_text.specs.declared.fault.TextFault.{TextFault}
 use Rattle.bmp_text.specs.Cursor.{Cursor, natural}
-use Rattle.bmp_text.specs.Readers.{after, give, line}
+use Rattle.bmp_text.specs.Readers.{give, line}
 use Rattle.bmp_text.specs.Sequence.{◌>>=◌}
 use Rattle.bmp_text.specs.Printing.{line_text}
 use Rattle.bmp_linear.specs.declared.blocks.DegreeBlock.{DegreeBlock}

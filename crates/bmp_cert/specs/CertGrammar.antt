@@ -9,7 +9,7 @@ use Rattle.std.specs.Prelude.{◌≡◌, ◌≤◌, ◌*◌, ◌+◌, ◌-◌, �
 use Rattle.std.specs.Fmt.{decimal}
 use Rattle.bmp_text.specs.declared.fault.TextFault.{TextFault}
 use Rattle.bmp_text.specs.Cursor.{Cursor, natural}
-use Rattle.bmp_text.specs.Readers.{after, give, nothing, chain, counted_chain, line, single}
+use Rattle.bmp_text.specs.Readers.{give, nothing, chain, counted_chain, line, single}
 use Rattle.bmp_text.specs.Sequence.{◌>>=◌}
 use Rattle.bmp_text.specs.Printing.{Chosen, line_text, single_text, chain_text, counted_text, ChainFits, CountedFits}
 use Rattle.bmp_cert.specs.declared.cert.VertexPart.{VertexPart}

@@ -9,7 +9,7 @@ use Rattle.std.specs.Fmt.{decimal, signed_decimal}
 use Rattle.bmp_text.specs.declared.fault.TextFault.{TextFault}
 use Rattle.bmp_text.specs.Numerals.{InRange}
 use Rattle.bmp_text.specs.Cursor.{Cursor, number, natural}
-use Rattle.bmp_text.specs.Readers.{onto, after, give, nothing, same, chain, counted_chain, line, single}
+use Rattle.bmp_text.specs.Readers.{onto, give, nothing, same, chain, counted_chain, line, single}
 use Rattle.bmp_text.specs.Sequence.{◌>>=◌}
 use Rattle.bmp_text.specs.Printing.{line_text, single_text, chain_text, counted_text}
 use Rattle.bmp_cert.specs.declared.job.Job.{Job}

@@ -5,7 +5,7 @@
 use Rattle.std.specs.Prelude.{ℕ, Bool, false, ◌||◌, ◌==◌, not, List, length, Result, Ok, Err, nat_lt, codes}
 use Rattle.bmp_text.specs.declared.fault.TextFault.{TextFault}
 use Rattle.bmp_text.specs.Cursor.{Cursor, text_start}
-use Rattle.bmp_text.specs.Readers.{after, give, single}
+use Rattle.bmp_text.specs.Readers.{give, single}
 use Rattle.bmp_text.specs.Sequence.{◌>>=◌}
 use Rattle.bmp_cert.specs.declared.job.Job.{Job}
 use Rattle.bmp_cert.specs.JobGrammar.{job_lines}

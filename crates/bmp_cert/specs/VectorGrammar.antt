@@ -7,7 +7,7 @@ use Rattle.std.specs.Prelude.{◌≡◌, ◌≤◌, ◌+◌, ℕ, List, [], ◌�
 use Rattle.std.specs.Fmt.{decimal}
 use Rattle.bmp_text.specs.declared.fault.TextFault.{TextFault}
 use Rattle.bmp_text.specs.Cursor.{Cursor, natural}
-use Rattle.bmp_text.specs.Readers.{after, give, same, chain, counted_chain, line}
+use Rattle.bmp_text.specs.Readers.{give, same, chain, counted_chain, line}
 use Rattle.bmp_text.specs.Sequence.{◌>>=◌}
 use Rattle.bmp_text.specs.Printing.{line_text, chain_text, counted_text, ChainFits, CountedFits}
 use Rattle.bmp_linear.specs.declared.vector.Entry.{Entry}

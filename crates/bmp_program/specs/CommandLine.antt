@@ -54,7 +54,7 @@ named text = if bytes_eq text (codes "check") then Some Check else None
 abbrev pub takes_seed : CommandWord → Bool
 takes_seed Check = false
 
--- the command, where a seed is given with one that takes it alone
+-- the command, but none where a seed is given and the command takes none
 abbrev pub allowed : Bool → CommandWord → Option CommandWord
 allowed seeded command = if seeded && not (takes_seed command) then None else Some command
 

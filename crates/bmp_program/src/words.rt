@@ -112,7 +112,7 @@ fn named_command(word: &str) -> Option<CommandWord>
     }
 }
 
-// The listed command that the word names, where a seed is given with one that takes it alone.
+// The listed command that the word names, but none where a seed is given and the command takes none.
 fn allowed_command(word: Option<&str>, seeded: bool) -> Option<CommandWord>
     ensures { result ≡ option_and_then (λ text. option_and_then (allowed seeded) (named text))
         (option_map (λ s. s.now) word.entry) }

@@ -1,6 +1,6 @@
-use Rattle.std.proofs.Common.{◌≡◌, ◌+◌, ◌-◌, ◌<◌, ◌≤◌, [], arith}
+use Rattle.std.proofs.Common.{◌+◌, ◌-◌, arith}
 use Rattle.std.proofs.lemmas.Result.{err_from_is_err_and}
-use Rattle.bmp_text.specs.Readers.{list_with, line, same}
+use Rattle.bmp_text.specs.Readers.{list_with}
 use Rattle.bmp_text.proofs.Loops.{chain_on, chain_all, pushed_all}
 use Rattle.bmp_cert.proofs.AnswerLemmas.{chain_stop, pushed_stop}
 use Rattle.bmp_cert.specs.BlockGrammar.{block}

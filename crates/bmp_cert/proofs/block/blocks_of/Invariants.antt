@@ -1,5 +1,5 @@
-use Rattle.std.proofs.Common.{◌≡◌, ◌+◌, ◌-◌, ◌<◌, ◌≤◌, ◌^◌, []}
-use Rattle.bmp_text.specs.Readers.{onto, list_with, chain, line, same}
+use Rattle.std.proofs.Common.{◌≡◌, ◌-◌, []}
+use Rattle.bmp_text.specs.Readers.{onto, list_with, chain}
 use Rattle.bmp_cert.specs.BlockGrammar.{block}
 use Rattle.bmp_cert.specs.CertGrammar.{step_up}
 use Rattle.bmp_cert.specs.Degrees.{count_at}

@@ -1,4 +1,4 @@
-use Rattle.std.proofs.Common.{◌≡◌, ◌+◌, ◌-◌, pos, negsuc, arith, refl}
+use Rattle.std.proofs.Common.{◌+◌, ◌-◌, pos, negsuc, arith, refl}
 use Rattle.std.proofs.lemmas.Result.{err_from_is_err_and}
 use Rattle.bmp_text.proofs.Loops.{chain_onto, chain_all, pushed_all}
 use Rattle.bmp_cert.proofs.AnswerLemmas.{chain_stop, pushed_stop}

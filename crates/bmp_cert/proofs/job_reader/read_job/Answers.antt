@@ -1,9 +1,6 @@
-use Rattle.std.proofs.Common.{◌≡◌, ap, subst, ◌∙◌}
 use Rattle.bmp_cert.proofs.JobPairs.{job_pair}
-use Rattle.bmp_cert.specs.Answers.{Answers}
 use Rattle.bmp_cert.specs.JobGrammar.{job, job_text, IsWellFormedJob}
 use Rattle.bmp_cert.proofs.AnswerLemmas.{whole_found, whole_only}
-use Rattle.bmp_text.specs.Readers.{whole}
 use Rattle.bmp_cert.proofs.job_reader.read_job.Goals as goal
 
 pub returns-clause-found : goal.returns-clause-found

@@ -1,4 +1,4 @@
-use Rattle.std.proofs.Common.{◌≡◌, ◌+◌, ◌-◌, arith, codes}
+use Rattle.std.proofs.Common.{◌+◌, ◌-◌, arith, codes}
 use Rattle.std.proofs.lemmas.Result.{err_from_is_err_and}
 use Rattle.bmp_cert.specs.JobGrammar.{with_row, entries}
 use Rattle.bmp_text.proofs.Loops.{chain_on, chain_all}

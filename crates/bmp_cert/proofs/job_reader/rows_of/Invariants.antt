@@ -1,4 +1,4 @@
-use Rattle.std.proofs.Common.{◌≡◌, ◌-◌, []}
+use Rattle.std.proofs.Common.{◌≡◌, ◌-◌}
 use Rattle.bmp_cert.specs.JobGrammar.{with_row, entries, rows}
 use Rattle.bmp_text.specs.Readers.{onto, chain, line, same}
 use Rattle.std.proofs.Common.{codes}

@@ -1,5 +1,5 @@
-use Rattle.std.proofs.Common.{◌≡◌, ◌+◌, ◌-◌, ◌<◌, ◌≤◌, ◌^◌, []}
-use Rattle.bmp_text.specs.Readers.{onto, list_with, chain, line, same}
+use Rattle.std.proofs.Common.{◌≡◌, ◌-◌, ◌<◌, ◌^◌, []}
+use Rattle.bmp_text.specs.Readers.{onto, list_with, chain}
 use Rattle.bmp_cert.specs.CertGrammar.{part_at, step_down}
 use Rattle.bmp_cert.proofs.part.parts_of.Given as goal
 

@@ -1,4 +1,4 @@
-use Rattle.std.proofs.Common.{pos, rules}
+use Rattle.std.proofs.Common.{pos}
 use Rattle.std.specs.Fmt.{signed_decimal}
 use Rattle.bmp_text.proofs.PrintingLoops.{words_on, words_end}
 use Rattle.bmp_cert.proofs.print.push_entries.Goals as goal

@@ -1,4 +1,3 @@
-use Rattle.std.proofs.Common.{◌≡◌, ◌*◌, length, ap, ◌∙◌}
 use Rattle.bmp_cert.proofs.print.push_job_lines.Goals as goal
 
 pub push_rows-requires : goal.push_rows-requires

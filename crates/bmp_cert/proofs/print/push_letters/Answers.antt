@@ -1,4 +1,3 @@
-use Rattle.std.proofs.Common.{pos, rules}
 use Rattle.std.specs.Fmt.{decimal}
 use Rattle.bmp_text.proofs.PrintingLoops.{words_on, words_end}
 use Rattle.bmp_cert.proofs.print.push_letters.Goals as goal

@@ -1,4 +1,4 @@
-use Rattle.std.proofs.Common.{◌≡◌, ◌+◌, ◌-◌, ◌*◌, ap, drop, take, arith, rules}
+use Rattle.std.proofs.Common.{◌≡◌, ◌+◌, ◌-◌, ◌*◌, ap, drop, take, arith}
 use Rattle.bmp_cert.proofs.JobPrinting.{rows_on, rows_end}
 use Rattle.bmp_cert.proofs.print.push_rows.Goals as goal
 

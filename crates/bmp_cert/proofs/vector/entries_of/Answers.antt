@@ -1,11 +1,10 @@
-use Rattle.std.proofs.Common.{◌≡◌, ◌+◌, ◌-◌, ◌<◌, ◌≤◌, [], arith}
+use Rattle.std.proofs.Common.{◌+◌, ◌-◌, arith}
 use Rattle.std.proofs.lemmas.Result.{err_from_is_err_and}
-use Rattle.bmp_text.specs.Readers.{list_with, line, same}
+use Rattle.bmp_text.specs.Readers.{list_with}
 use Rattle.bmp_text.proofs.Loops.{chain_on, chain_all, pushed_all}
 use Rattle.bmp_cert.proofs.AnswerLemmas.{chain_stop, pushed_stop}
 use Rattle.bmp_cert.specs.VectorGrammar.{entry, behind_place}
-use Rattle.bmp_linear.specs.SparseVectors.{FitsBelow}
-use Rattle.bmp_cert.proofs.VectorLemmas.{fits_higher, fits_behind}
+use Rattle.bmp_cert.proofs.VectorLemmas.{fits_behind}
 use Rattle.bmp_cert.proofs.vector.entries_of.Goals as goal
 
 pub entries-preserved : goal.entries-preserved

@@ -1,8 +1,7 @@
-use Rattle.std.proofs.Common.{◌≡◌, ◌+◌, ◌-◌, ◌<◌, ◌≤◌, ◌^◌, []}
-use Rattle.bmp_text.specs.Readers.{onto, list_with, chain, line, same}
+use Rattle.std.proofs.Common.{◌≡◌, ◌-◌, ◌<◌, ◌^◌, []}
+use Rattle.bmp_text.specs.Readers.{onto, list_with, chain}
 use Rattle.bmp_cert.specs.VectorGrammar.{entry, behind_place}
 use Rattle.bmp_linear.specs.SparseVectors.{FitsBelow}
-use Rattle.bmp_cert.proofs.VectorLemmas.{fits_higher, fits_behind}
 use Rattle.bmp_cert.proofs.vector.entries_of.Given as goal
 
 abbrev pub invariant-entries : goal.invariant-entries

@@ -1,5 +1,5 @@
-use Rattle.std.proofs.Common.{◌≡◌, ◌+◌, ◌-◌, ◌<◌, ◌≤◌, ◌^◌, []}
-use Rattle.bmp_text.specs.Readers.{onto, list_with, chain, line, same}
+use Rattle.std.proofs.Common.{◌≡◌, ◌+◌, ◌-◌, ◌<◌, ◌^◌, []}
+use Rattle.bmp_text.specs.Readers.{onto, list_with, chain}
 use Rattle.bmp_cert.specs.VectorGrammar.{MOST}
 use Rattle.bmp_text.specs.Cursor.{natural}
 use Rattle.bmp_cert.proofs.vector.places_of.Given as goal

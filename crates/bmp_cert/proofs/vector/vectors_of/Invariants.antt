@@ -1,4 +1,4 @@
-use Rattle.std.proofs.Common.{◌≡◌, ◌+◌, ◌-◌, ◌<◌, ◌≤◌, ◌^◌, []}
+use Rattle.std.proofs.Common.{◌≡◌, ◌-◌, []}
 use Rattle.bmp_text.specs.Readers.{onto, list_with, chain, line, same}
 use Rattle.bmp_cert.specs.VectorGrammar.{vector}
 use Rattle.bmp_cert.proofs.vector.vectors_of.Given as goal

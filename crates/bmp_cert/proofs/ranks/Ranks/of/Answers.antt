@@ -1,5 +1,4 @@
-use Rattle.std.proofs.Common.{◌≡◌, ℕ, ◌+◌, ◌*◌, ◌≤◌, length, ap, ap₂, sym, ◌∙◌, arith, rules}
-use Rattle.bmp_cert.specs.Counts.{all_counts}
+use Rattle.std.proofs.Common.{◌≡◌, ℕ, ◌+◌, ◌*◌, length, ap, ap₂, sym, ◌∙◌, arith}
 use Rattle.bmp_cert.proofs.CountLemmas.{length-all_counts, ranks_of}
 use Rattle.bmp_cert.proofs.ranks.Ranks.of.Goals as goal
 
