@@ -1,7 +1,7 @@
 -- The rank lines depend on the numbers alone.
 use Rattle.std.proofs.Common.{◌≡◌, ℕ, ◌+◌, ◌<◌, ◌≤◌, List, [], ◌∷◌, length, codes, ap, ap₂, ◌∙◌, arith}
 use Rattle.std.specs.Fmt.{decimal}
-use Rattle.bmp_text.specs.Printing.{line_text, range_text}
+use Rattle.bmp_text.specs.Printing.{line_text}
 use Rattle.bmp_text.proofs.PrintingLoops.{range_same}
 use Rattle.bmp_cert.specs.declared.cert.Cert.{Cert}
 use Rattle.bmp_cert.specs.Counts.{RankTable, generator_count, rank_in, IsRanksOf}

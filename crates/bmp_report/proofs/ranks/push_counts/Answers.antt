@@ -1,4 +1,4 @@
-use Rattle.std.proofs.Common.{◌≡◌, ◌+◌, ◌-◌, arith}
+use Rattle.std.proofs.Common.{◌+◌, ◌-◌, arith}
 use Rattle.std.specs.Fmt.{decimal}
 use Rattle.bmp_cert.specs.Counts.{rank_in}
 use Rattle.bmp_text.proofs.PrintingLoops.{range_words_on}

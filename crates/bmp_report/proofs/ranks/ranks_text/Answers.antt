@@ -1,4 +1,4 @@
-use Rattle.std.proofs.Common.{◌≡◌, ◌+◌, ◌-◌, arith}
+use Rattle.std.proofs.Common.{◌+◌, ◌-◌, arith}
 use Rattle.bmp_cert.specs.Counts.{rank_in}
 use Rattle.bmp_report.specs.RankLines.{rank_line}
 use Rattle.bmp_text.proofs.PrintingLoops.{range_on}
