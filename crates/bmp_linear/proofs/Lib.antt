@@ -1,5 +1,6 @@
 pub mod SparseLemmas
 pub mod EntrySums
+pub mod MergeLemmas
 pub mod RowSums
 pub mod RowChangeLemmas
 pub mod RowTableLemmas

@@ -17,7 +17,7 @@ all_tail : {X : Type 0} (P : X → Type 0) (x : X) (xs : List X) → All P (x �
 all_tail P x xs h k d l = h (suc k) d (omega arith)
 
 -- where no entry stands, the number is 0
-absent : (v : List Entry) (j : ℕ) → All (λ e. e.place ≢ j) v → number_at v j ≡ 0
+pub absent : (v : List Entry) (j : ℕ) → All (λ e. e.place ≢ j) v → number_at v j ≡ 0
 absent [] j h = refl
 absent (e ∷ es) j h =
     cond-false (eqb e.place j) e.value (number_at es j) (ne_eqb e.place j (all_head (λ d. d.place ≢ j) e es h))

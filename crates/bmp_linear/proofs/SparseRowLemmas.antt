@@ -53,6 +53,17 @@ module _ (p : ℕ) (t : EntryTable) (i : ℕ) (es : List Entry) (row : IsSparseR
       turned : (x y : ℕ) → x * y ≡ y * x
       turned x y = omega arith
 
+  -- the row times a vector, entry by entry
+  pub row_product : (v : List Entry) (value : ℕ) → value ≡ sum_by (λ e. e.value * number_at v e.place) es % p → value ≡ image (matrix_of_entries t) (number_at v) i % p
+  row_product v value is_value =
+      is_value
+      ∙ ap (λ s. s % p) (sum_by-number_at es t.cols (number_at v) row.sparse.rising row.fits
+      ∙ sum_below_same (λ j. number_at es j * number_at v j) (λ j. number_at v j * (matrix_of_entries t).entry i j) t.cols
+      (λ j l. ap (λ x. x * number_at v j) (row.same j) ∙ turned_row ((matrix_of_entries t).entry i j) (number_at v j)))
+    where
+      turned_row : (x y : ℕ) → x * y ≡ y * x
+      turned_row x y = omega arith
+
   -- the row's entries added are the row added
   pub row_added : (c : ℕ) (old new : List ℕ) → HoldsNumbers p t.cols old → AddsEntries p c es old new → IsRowAddedTo p (matrix_of_entries t) i c old new
   row_added c old new holds adds = record {

@@ -1,8 +1,8 @@
 //! Rows that keep their entries.
-ghost use Rattle.std.specs.Prelude.{◌≡◌, ℕ, ◌*◌, ◌%◌, ◌<◌, [], length, slice_index, OnOk, OnErr, All, sum_by};
+ghost use Rattle.std.specs.Prelude.{◌≡◌, ℕ, ◌*◌, ◌%◌, ◌<◌, ◌≤◌, [], length, take, slice_index, slice_index_or, OnOk, OnErr, All, sum_by};
 ghost use Rattle.bmp_math.specs.Matrices.{Matrix};
 ghost use Rattle.bmp_linear.specs.RowTables.{EntryTable, matrix_of_entries};
-ghost use Rattle.bmp_linear.specs.SparseVectors.{IsSparse, FitsBelow, ValuesBelow, number_at};
+ghost use Rattle.bmp_linear.specs.SparseVectors.{IsRising, IsSparse, FitsBelow, ValuesBelow, number_at};
 ghost use Rattle.bmp_linear.specs.RowChanges.{AddsEntries};
 
 use crate::rows::{RowSpace, Rows};
@@ -67,6 +67,11 @@ impl<F: Field> Rows<F> for SparseRows<F> {
         f.from_num(u32::from(number_in(row.as_slice(), j)))
     }
 
+    fn value_at(&self, f: &F, i: u32, vector: &Vector) -> F::E {
+        let row = &self.rows[i as usize];
+        product(f, row.as_slice(), vector.entries())
+    }
+
     fn value_at_spread(&self, f: &F, i: u32, vector: &Vector, spread: &[u8]) -> F::E {
         let _ = vector;
         let row = &self.rows[i as usize];
@@ -89,6 +94,56 @@ fn number_in(entries: &[Entry], place: u32) -> u8
         }
     }
     0
+}
+
+/// The first entry from `next` on whose place is `place` or more.
+fn seek(entries: &[Entry], next: usize, place: u32) -> usize
+    requires within { next ≤ length entries.now }
+    requires passed { FitsBelow (take next entries.now) place }
+    ensures within { result ≤ length entries.now }
+    ensures passed { FitsBelow (take result entries.now) place }
+    ensures reached { (d : Entry) → result < length entries.now → place ≤ (slice_index_or entries.now result d).place }
+{
+    let mut at = next;
+    while at < entries.len() && entries[at].place < place {
+        at += 1;
+    }
+    at
+}
+
+/// The number at `place`, where `at` is the first entry whose place is `place` or more.
+fn number_from(entries: &[Entry], at: usize, place: u32) -> u8
+    requires rising { IsRising entries.now }
+    requires passed { FitsBelow (take at entries.now) place }
+    requires reached { (d : Entry) → at < length entries.now → place ≤ (slice_index_or entries.now at d).place }
+    ensures { result ≡ number_at entries.now place }
+{
+    if at < entries.len() && entries[at].place == place {
+        entries[at].value
+    } else {
+        0
+    }
+}
+
+/// The sum of the products of the values at equal places, in one pass over both.
+fn product<F: Field>(f: &F, row: &[Entry], vector: &[Entry]) -> F::E
+    requires row_rising { IsRising row.now }
+    requires row_values { ValuesBelow row.now (F.size f.now) }
+    requires rising { IsRising vector.now }
+    requires values { ValuesBelow vector.now (F.size f.now) }
+    ensures value { F.is_value f.now result }
+    ensures number { F.num f.now result
+        ≡ sum_by (λ e. e.value * number_at vector.now e.place) row.now % F.size f.now }
+{
+    let mut sum = f.zero();
+    let mut next = 0;
+    for entry in row {
+        next = seek(vector, next, entry.place);
+        let factor = f.from_num(u32::from(entry.value));
+        let number = f.from_num(u32::from(number_from(vector, next, entry.place)));
+        sum = f.add(sum, f.mul(factor, number));
+    }
+    sum
 }
 
 /// The sum of the entries' values times the numbers at their places.
