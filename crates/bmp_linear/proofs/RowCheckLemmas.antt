@@ -3,7 +3,6 @@ use Rattle.std.proofs.Common.{◌≡◌, ◌≢◌, ℕ, ◌%◌, ◌<◌, ◌�
 use Rattle.bmp_math.specs.Vectors.{unit}
 use Rattle.bmp_math.specs.Matrices.{Matrix, combination, image}
 use Rattle.bmp_linear.specs.declared.vector.Entry.{Entry}
-use Rattle.bmp_linear.specs.declared.fault.RowFault.{RowFault}
 use Rattle.bmp_linear.specs.SparseVectors.{number_at}
 use Rattle.bmp_linear.specs.Faults.{AllPass, IsFirstFailure}
 use Rattle.bmp_linear.specs.RowChecks.{ComparesCombination, ComparesDual}

@@ -1,5 +1,5 @@
 -- Rows in memory: what stands where, and one row more.
-use Rattle.std.proofs.Common.{◌≡◌, ◌≢◌, ℕ, ◌+◌, ◌-◌, ◌*◌, ◌<◌, ◌≤◌, ◌++◌, replicate, map, subst, take_all, length-append, List, [], length, get_or, set, take, cond, eqb, eq-eqb, ne_eqb, length-set, get_or-set_same, get_or-set_other, refl, sym, ap, ◌∙◌, inl, inr, arith}
+use Rattle.std.proofs.Common.{◌≡◌, ◌≢◌, ℕ, ◌+◌, ◌-◌, ◌*◌, ◌<◌, ◌++◌, replicate, map, take_all, length-append, List, [], length, get_or, set, take, eqb, eq-eqb, ne_eqb, length-set, get_or-set_same, get_or-set_other, sym, ap, ◌∙◌, inl, inr, arith}
 use Rattle.std.proofs.lemmas.Bool.{cases_eq, cond-true, cond-false}
 use Rattle.std.proofs.lemmas.List.{get_or-map, length-map, length-replicate}
 use Rattle.std.proofs.lemmas.Grind.{common_steps}
@@ -8,7 +8,7 @@ use Rattle.smallvec.specs.SmallVec.{SmallVec}
 use Rattle.bmp_linear.specs.declared.vector.Entry.{Entry}
 use Rattle.bmp_linear.specs.RowTables.{NumberTable, EntryTable, matrix_of_numbers, matrix_of_entries, entries_of}
 use Rattle.bmp_linear.specs.RowChanges.{IsRowPushed}
-use Rattle.bmp_linear.specs.SparseVectors.{IsRising, FitsBelow, number_at}
+use Rattle.bmp_linear.specs.SparseVectors.{IsRising, number_at}
 use Rattle.bmp_linear.proofs.SparseLemmas.{number_at_more}
 
 -- behind `start` numbers of old, the numbers of v below cols

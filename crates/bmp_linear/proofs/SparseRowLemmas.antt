@@ -1,12 +1,11 @@
 -- A row of sparse rows, as its entries.
-use Rattle.std.proofs.Common.{◌≡◌, ℕ, ◌+◌, ◌*◌, ◌%◌, ◌<◌, ◌≤◌, List, [], ◌∷◌, length, get_or, map, cond, eqb, eq-eqb, ne_eqb, refl, sym, ap, ap₂, subst, ◌∙◌, inl, inr, arith}
+use Rattle.std.proofs.Common.{◌≡◌, ℕ, ◌+◌, ◌*◌, ◌%◌, ◌<◌, List, length, get_or, map, sym, ap, ap₂, subst, ◌∙◌, arith}
 use Rattle.std.specs.List.{All, sum_by}
-use Rattle.std.proofs.lemmas.Bool.{cases_eq, cond-true, cond-false}
 use Rattle.smallvec.specs.SmallVec.{SmallVec}
-use Rattle.bmp_math.specs.Matrices.{Matrix, NumbersBelow, image}
+use Rattle.bmp_math.specs.Matrices.{NumbersBelow, image}
 use Rattle.bmp_math.proofs.SumLemmas.{sum_below_same}
 use Rattle.bmp_linear.specs.declared.vector.Entry.{Entry}
-use Rattle.bmp_linear.specs.SparseVectors.{IsRising, IsSparse, FitsBelow, ValuesBelow, IsSpread, number_at}
+use Rattle.bmp_linear.specs.SparseVectors.{IsSparse, FitsBelow, ValuesBelow, IsSpread, number_at}
 use Rattle.bmp_linear.specs.RowTables.{EntryTable, matrix_of_entries, entries_of}
 use Rattle.bmp_linear.specs.RowChanges.{HoldsNumbers, IsRowAddedTo, AddsEntries}
 use Rattle.bmp_linear.proofs.SparseLemmas.{number_at-own, number_at-below, number_at-past, sum_by-number_at}

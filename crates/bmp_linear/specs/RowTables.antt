@@ -6,7 +6,6 @@
 --   matrix_of_numbers t     the number of row i and column j stands at i * cols + j
 --   matrix_of_entries t     the number of row i and column j is that of the row's entries at j
 use Rattle.std.specs.Prelude.{ℕ, ◌+◌, ◌*◌, List, [], length, slice_index, slice_index_or}
-use Rattle.std.specs.declared.alloc.Global.{Global}
 use Rattle.bmp_math.specs.Matrices.{Matrix}
 use Rattle.bmp_linear.specs.declared.vector.Entry.{Entry}
 use Rattle.bmp_linear.specs.SparseVectors.{number_at}

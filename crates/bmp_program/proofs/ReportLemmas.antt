@@ -1,9 +1,9 @@
 -- Reports as answers that a run decides on.
-use Rattle.std.proofs.Common.{◌≡◌, ◌<◌, ◌+◌, ◌^◌, ℕ, List, [], ◌++◌, Option, Some, None, refl, sym, subst, ap, ◌∙◌, arith, length, codes, length-append, append-nil}
+use Rattle.std.proofs.Common.{◌≡◌, ◌<◌, ◌+◌, ℕ, List, [], ◌++◌, Option, Some, None, refl, sym, subst, ap, ◌∙◌, arith, length, codes, length-append, append-nil}
 use Rattle.clap.specs.Walk.{Text}
 use Rattle.bmp_ports.specs.Ports.{Passes, PassesExactly, IsAtEnd}
 use Rattle.bmp_program.specs.CommandLine.{asked}
-use Rattle.bmp_program.specs.Reports.{input_limit, CertReport, CheckReport, CommandReport, IsReport}
+use Rattle.bmp_program.specs.Reports.{input_limit, CheckReport, CommandReport, IsReport}
 use Rattle.bmp_program.specs.Runs.{Report, Holds, Reports, DecidedBy, IsDecided}
 use Rattle.bmp_program.specs.declared.words.CommandWord.{CommandWord}
 use Rattle.bmp_program.specs.declared.status.Status.{Status}

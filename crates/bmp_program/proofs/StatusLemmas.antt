@@ -1,6 +1,5 @@
 -- Words and input have one status at most.
-use Rattle.std.proofs.Common.{◌≡◌, ◌<◌, ◌≤◌, ◌⊎◌, inl, inr, ℕ, List, Option, Some, None, Result, Ok, Err, true, false, IsTrue, refl, sym, subst, ap, ◌∙◌, arith, length}
-use Rattle.clap.specs.Walk.{Text}
+use Rattle.std.proofs.Common.{◌≡◌, ◌<◌, ◌≤◌, ◌⊎◌, inl, inr, ℕ, List, Option, Some, None, Ok, Err, IsTrue, refl, sym, subst, ◌∙◌, arith, length}
 use Rattle.bmp_text.specs.declared.fault.TextFault.{TextFault}
 use Rattle.bmp_text.specs.Readers.{whole}
 use Rattle.bmp_text.proofs.Pairs.{whole_again}

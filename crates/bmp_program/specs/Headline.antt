@@ -4,7 +4,7 @@
 --   IsCertified left before after
 --                            where the source tells its bytes, they are such a certificate, and the sink took the lines
 --                            of its numbers of generators
-use Rattle.std.specs.Prelude.{◌≡◌, ℕ, List, Option, Some, None, IfSome}
+use Rattle.std.specs.Prelude.{◌≡◌, ℕ, List, Option, None, IfSome}
 use Rattle.bmp_ports.specs.Ports.{Takes}
 use Rattle.bmp_cert.specs.declared.cert.Cert.{Cert}
 use Rattle.bmp_cert.specs.CertGrammar.{cert_text, IsWellFormed}

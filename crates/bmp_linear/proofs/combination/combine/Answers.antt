@@ -1,4 +1,4 @@
-use Rattle.std.proofs.Common.{◌≡◌, ◌≤◌, ◌<◌, ◌∙◌, length, arith, refl, rules}
+use Rattle.std.proofs.Common.{◌∙◌, arith, refl, rules}
 use Rattle.std.proofs.lemmas.Nat.{mod_below}
 use Rattle.bmp_linear.proofs.EntrySums.{entry_sum_none, entry_sum_step, entry_sum_all}
 use Rattle.bmp_linear.proofs.combination.combine.Goals as goal

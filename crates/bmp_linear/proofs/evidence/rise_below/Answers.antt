@@ -1,4 +1,4 @@
-use Rattle.std.proofs.Common.{◌≡◌, ◌<◌, List, ℕ, refl, sym, subst, true≢false}
+use Rattle.std.proofs.Common.{◌<◌, List, ℕ, refl, sym, subst, true≢false}
 use Rattle.std.specs.List.{All}
 use Rattle.std.specs.List.Sorted.{IsStrictlyIncreasing}
 use Rattle.bmp_linear.proofs.ShapeLemmas.{rises_all, too_low, too_high}

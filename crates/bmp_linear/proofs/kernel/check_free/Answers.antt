@@ -1,4 +1,4 @@
-use Rattle.std.proofs.Common.{rules, arith, ap, ◌∙◌, ◌≡◌, ◌<◌, true, false}
+use Rattle.std.proofs.Common.{rules, arith, ◌∙◌, ◌≡◌, true, false}
 use Rattle.bmp_linear.specs.FreePlaces.{has_place}
 use Rattle.bmp_linear.proofs.KernelLemmas.{free_more, free_fails, free_all}
 use Rattle.bmp_linear.proofs.FreeLemmas.{free_count_free, free_count_pivot, free_if_unmarked, pivot_if_marked, length-free_places-le}

@@ -1,4 +1,4 @@
-use Rattle.std.proofs.Common.{◌≡◌, ℕ, ◌%◌, ◌<◌, get_or, rules, sym, ap, ◌∙◌, below_more}
+use Rattle.std.proofs.Common.{◌%◌, ◌<◌, rules, sym, ap, ◌∙◌, below_more}
 use Rattle.bmp_math.specs.Matrices.{combination}
 use Rattle.bmp_linear.specs.SparseVectors.{number_at}
 use Rattle.bmp_linear.specs.Evidence.{vector_at}

@@ -1,4 +1,3 @@
-use Rattle.std.proofs.Common.{◌≤◌, length, arith, rules}
 use Rattle.bmp_linear.proofs.FreeLemmas.{marked_more, marked_all}
 use Rattle.bmp_linear.proofs.kernel.mark.Goals as goal
 

@@ -1,4 +1,4 @@
-use Rattle.std.proofs.Common.{◌≡◌, ◌<◌, ◌∙◌, refl, rules}
+use Rattle.std.proofs.Common.{◌∙◌, rules}
 use Rattle.bmp_linear.proofs.RowSums.{entries_none, entries_more, entries_all, entry_untouched}
 use Rattle.bmp_linear.proofs.sparse.add_entries.Goals as goal
 

@@ -1,4 +1,4 @@
-use Rattle.std.proofs.Common.{◌≡◌, ◌≢◌, ◌<◌, ◌≤◌, length, get_or, arith, sym}
+use Rattle.std.proofs.Common.{◌≤◌, length, arith, sym}
 use Rattle.bmp_linear.proofs.MergeLemmas.{number_reached, number_missed}
 use Rattle.bmp_linear.proofs.sparse.number_from.Goals as goal
 use Rattle.bmp_linear.proofs.sparse.number_from.Goals.{else-at-entries-via-then-at-entries+else-entries-at, else-at-entries-via-else-at-entries}

@@ -1,4 +1,4 @@
-use Rattle.std.proofs.Common.{◌<◌, ◌∙◌, arith}
+use Rattle.std.proofs.Common.{◌∙◌, arith}
 use Rattle.bmp_linear.proofs.EntrySums.{entry_sum_none, entry_sum_more, entry_sum_whole}
 use Rattle.bmp_linear.proofs.SparseLemmas.{number_at-below}
 use Rattle.bmp_linear.proofs.MergeLemmas.{passed_next}

@@ -1,4 +1,4 @@
-use Rattle.std.proofs.Common.{◌≡◌, ◌<◌, ◌∙◌, length, arith, refl, rules}
+use Rattle.std.proofs.Common.{◌∙◌, rules}
 use Rattle.bmp_linear.proofs.RowSums.{added_none, added_more, added_all, still_below}
 use Rattle.bmp_linear.proofs.rows.Rows.add_row_to.Goals as goal
 

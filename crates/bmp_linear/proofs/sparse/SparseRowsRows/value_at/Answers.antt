@@ -1,4 +1,3 @@
-use Rattle.std.proofs.Common.{sym}
 use Rattle.bmp_linear.proofs.SparseRowLemmas.{sparse_row, row_product}
 use Rattle.bmp_linear.proofs.sparse.SparseRowsRows.value_at.Goals as goal
 

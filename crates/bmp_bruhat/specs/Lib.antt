@@ -1,0 +1,4 @@
+pub mod Labels
+pub mod Edges
+pub mod Laws
+pub mod Building

@@ -1,0 +1,16 @@
+pub mod Totals
+pub mod CopiesLemmas
+pub mod CoordinateLemmas
+pub mod GradedLemmas
+pub mod QuotientLemmas
+pub mod PureLemmas
+pub mod ReducedLaws
+pub mod PassLaws
+pub mod ModuleMaps
+pub mod ExtensionLaws
+pub mod ExtensionMaps
+pub mod ProjectionMaps
+pub mod Congruences
+pub mod ComponentLemmas
+pub mod ReducedActs
+pub mod TupleLemmas

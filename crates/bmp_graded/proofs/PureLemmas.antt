@@ -1,0 +1,99 @@
+-- Monomials without one variable, as lists of one exponent fewer or with a further 0.
+use Rattle.std.proofs.Common.{◌≡◌, ℕ, zero, suc, ◌+◌, ◌-◌, ◌<◌, ◌≤◌, List, [], ◌∷◌, ◌++◌, length, get_or, take, drop, refl, sym, ap, ap₂, ◌∙◌, arith, take_all, drop-cons, drop_of_length-le, length-append}
+use Rattle.std.specs.List.{sum}
+use Rattle.bmp_math.specs.Sums.{sum_below}
+use Rattle.bmp_poly.specs.Exponents.{IsMonomial, count, place, exponents, zeros, level}
+use Rattle.bmp_poly.proofs.PlaceLemmas.{sum-cons, exponents_stand, StandsAt}
+use Rattle.bmp_graded.specs.Quotients.{insert, remove}
+use Rattle.bmp_graded.proofs.QuotientLemmas.{insert_monomial, remove_monomial}
+
+-- with one exponent more, which is 0
+take_zeros : (w : ℕ) → take w (zeros (suc w)) ≡ zeros w
+unfolding zeros
+take_zeros zero = refl
+take_zeros (suc w) = ap (λ (m : List ℕ). 0 ∷ m) (take_zeros w)
+
+pub exponents_narrower : (w r d i : ℕ) → r ≤ w → take w (exponents (suc w) r d i) ≡ exponents w r d i
+unfolding exponents
+exponents_narrower w zero d i wide = take_zeros w
+exponents_narrower zero (suc r) d i wide = absurd (omega arith)
+exponents_narrower (suc w) (suc r) d i wide = let j = level (count r) i d in ap (λ (m : List ℕ). (d - j) ∷ m) (exponents_narrower w r j (i - sum_below (count r) j) (omega arith))
+
+sum_padded : (m : List ℕ) → sum (m ++ 0 ∷ []) ≡ sum m
+sum_padded [] = refl
+sum_padded (x ∷ m) = omega (arith, sum-cons x (m ++ 0 ∷ []), sum-cons x m, sum_padded m)
+
+pub place_padded : (r : ℕ) (m : List ℕ) → r ≤ length m → place r (m ++ 0 ∷ []) ≡ place r m
+unfolding place
+place_padded zero m wide = refl
+place_padded (suc r) [] wide = absurd (let none : suc r ≤ 0 = wide in omega arith)
+place_padded (suc r) (x ∷ m) wide = let rest : suc r ≤ suc (length m) = wide in ap₂ (λ a b. sum_below (count r) a + b) (sum_padded m) (place_padded r m (omega arith))
+
+padded_at : (m : List ℕ) (k : ℕ) → get_or m k 0 ≡ 0 → get_or (m ++ 0 ∷ []) k 0 ≡ 0
+padded_at [] zero h = refl
+padded_at [] (suc k) h = refl
+padded_at (x ∷ m) zero h = h
+padded_at (x ∷ m) (suc k) h = padded_at m k h
+
+pub padded_monomial : (w r d : ℕ) (m : List ℕ) → IsMonomial w r d m → IsMonomial (suc w) r d (m ++ 0 ∷ [])
+padded_monomial w r d m is = record {
+  long = let long : length m ≡ w = is.long in let more : length (m ++ 0 ∷ []) ≡ length m + 1 = simp length-append in omega arith;
+  size = sum_padded m ∙ is.size;
+  past = λ k l. padded_at m k (is.past k l);
+}
+
+-- a list with its last member, which is 0, put in at a
+pub rotated_right : (a n : ℕ) (xs : List ℕ) → a ≤ n → length xs ≡ suc n → get_or xs n 0 ≡ 0 → take a xs ++ (drop (n - a) (drop a xs) ++ take (n - a) (drop a xs)) ≡ insert a (take n xs)
+unfolding insert
+rotated_right zero n xs le long last =
+    let all : n - 0 ≡ n = omega arith in
+    let past : length xs ≤ suc n = omega arith in
+    let empty : drop (suc n) xs ≡ [] = drop_of_length-le xs past in
+    let one : drop n xs ≡ 0 ∷ [] = drop-cons xs n 0 (omega arith) ∙ ap₂ (λ (x : ℕ) (rest : List ℕ). x ∷ rest) last empty in
+    rw (all, one) refl
+rotated_right (suc a) zero xs le long last = absurd (omega arith)
+rotated_right (suc a) (suc n) [] le long last = absurd (let none : 0 ≡ suc (suc n) = long in omega arith)
+rotated_right (suc a) (suc n) (x ∷ xs) le long last =
+    let rest : suc (length xs) ≡ suc (suc n) = long in
+    let size : suc n - suc a ≡ n - a = omega arith in
+    rw size (ap (λ (m : List ℕ). x ∷ m) (rotated_right a n xs (omega arith) (omega arith) last))
+
+pub remove_parts : (l : ℕ) (e : List ℕ) → remove l e ≡ take l e ++ drop (suc l) e
+unfolding remove
+remove_parts zero [] = refl
+remove_parts zero (x ∷ e) = refl
+remove_parts (suc l) [] = refl
+remove_parts (suc l) (x ∷ e) = ap (λ (m : List ℕ). x ∷ m) (remove_parts l e)
+
+-- the monomials without the l-th of r variables
+pub without_monomial : (r l d i : ℕ) → l < r → r ≤ 6 → i < count (r - 1) d → IsMonomial 6 r d (insert l (exponents 5 (r - 1) d i))
+without_monomial zero l d i here wide inside = absurd (omega arith)
+without_monomial (suc r) l d i here wide inside =
+    let less_one : suc r - 1 ≡ r = omega arith in
+    let below : i < count r d = rw less_one at inside in
+    let stands : StandsAt 5 r d i (exponents 5 r d i) = exponents_stand 5 r d i (omega arith) below in
+    rw less_one (insert_monomial 5 r d l (exponents 5 r d i) (omega arith) (omega arith) stands.monomial)
+
+pub narrower_monomial : (r l d : ℕ) (e : List ℕ) → l < r → r ≤ 6 → get_or e l 0 ≡ 0 → IsMonomial 6 r d e → IsMonomial 6 (r - 1) d (remove l e ++ 0 ∷ [])
+narrower_monomial zero l d e here wide none is = absurd (omega arith)
+narrower_monomial (suc r) l d e here wide none is =
+    let less_one : suc r - 1 ≡ r = omega arith in
+    rw less_one (padded_monomial 5 r d (remove l e) (remove_monomial 5 r d l e (omega arith) (omega arith) none is))
+
+pub narrower_place : (r l d : ℕ) (e : List ℕ) → l < r → r ≤ 6 → get_or e l 0 ≡ 0 → IsMonomial 6 r d e → place (r - 1) (remove l e ++ 0 ∷ []) ≡ place (r - 1) (remove l e)
+narrower_place zero l d e here wide none is = absurd (omega arith)
+narrower_place (suc r) l d e here wide none is =
+    let less_one : suc r - 1 ≡ r = omega arith in
+    let removed : IsMonomial 5 r d (remove l e) = remove_monomial 5 r d l e (omega arith) (omega arith) none is in
+    let long : length (remove l e) ≡ 5 = removed.long in
+    rw less_one (place_padded r (remove l e) (omega arith))
+
+-- with no variable there is the monomial of degree 0 alone
+pub count_one : (r d : ℕ) → 0 < r → r ≤ 1 → d ≡ 0 → count (r - 1) d ≡ 1
+unfolding count
+count_one r d some one none = let at : r - 1 ≡ 0 = omega arith in rw (at, none) refl
+
+pub count_no : (r d : ℕ) → 0 < r → r ≤ 1 → (d ≡ 0 → ⊥) → count (r - 1) d ≡ 0
+unfolding count
+count_no r zero some one other = absurd (other refl)
+count_no r (suc d) some one other = let at : r - 1 ≡ 0 = omega arith in rw at refl

@@ -1,0 +1,18 @@
+-- The polynomials of an element of a free module, and equality modulo a linear form.
+--   component r gs h d u            the polynomial at the h-th generator of the element of degree d with coordinates u;
+--                                   its degree is d less the generator's
+--   IsSameModulo p r c gs d u v     at each generator of degree at most d the linear form c divides the difference of
+--                                   the polynomials of u and v
+use Rattle.std.specs.Prelude.{ℕ, zero, suc, ◌+◌, ◌-◌, ◌<◌, ◌≤◌, List, [], ◌∷◌, length, slice_index}
+use Rattle.bmp_poly.specs.Exponents.{place}
+use Rattle.bmp_poly.specs.Forms.{Form, Congruent}
+use Rattle.bmp_graded.specs.Modules.{polynomials, moved}
+
+unfoldable pub component : ℕ → List ℕ → ℕ → ℕ → (ℕ → ℕ) → Form
+component r [] h d u m = 0
+component r (g ∷ gs) zero d u m = u (place r m)
+component r (g ∷ gs) (suc h) d u m = component r gs h d (λ i. u ((moved g (polynomials r)).dim d + i)) m
+
+abbrev pub IsSameModulo : ℕ → ℕ → (ℕ → ℕ) → List ℕ → ℕ → (ℕ → ℕ) → (ℕ → ℕ) → Type 0
+IsSameModulo p r c gs d u v = (h : ℕ) → h < length gs → slice_index gs h ≤ d
+    → Congruent p 6 r (d - slice_index gs h) c (component r gs h d u) (component r gs h d v)

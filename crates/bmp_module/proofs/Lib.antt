@@ -1,0 +1,11 @@
+pub mod Changing
+pub mod Appending
+pub mod Dividing
+pub mod Multiplying
+pub mod Rotating
+pub mod Narrowing
+pub mod NormalBlocks
+pub mod Walking
+pub mod Acting
+pub mod Projecting
+pub mod Extending

@@ -1,0 +1,72 @@
+//! Monomials without one variable, which are the monomials in one variable fewer.
+ghost use Rattle.std.specs.Prelude.{◌≡◌, ℕ, ◌+◌, ◌-◌, ◌<◌, ◌≤◌, [], ◌∷◌, ◌++◌, slice_index, take};
+ghost use Rattle.bmp_poly.specs.Exponents.{count, exponents};
+ghost use Rattle.bmp_poly.specs.Forms.{Form};
+ghost use Rattle.bmp_graded.specs.Modules.{moved};
+ghost use Rattle.bmp_graded.specs.Quotients.{insert, remove, reduced};
+
+use bmp_poly::monomials;
+
+/// The monomial with a further variable at `at`, of exponent 0. The last exponent, which is 0, falls off.
+pub(crate) fn with_variable(m: &[u8; 6], at: u8) -> [u8; 6]
+    requires variable { at < 6 }
+    requires last { slice_index m.now 5 ≡ 0 }
+    ensures { result ≡ insert at (take 5 m.now) }
+{
+    let mut wider = *m;
+    wider[at as usize..].rotate_right(1);
+    wider
+}
+
+/// The monomial without its variable at `at`, of exponent 0, and a last exponent 0.
+pub(crate) fn without_variable(e: &[u8; 6], at: u8) -> [u8; 6]
+    requires variable { at < 6 }
+    requires zero { slice_index e.now at ≡ 0 }
+    ensures { result ≡ remove at e.now ++ 0 ∷ [] }
+{
+    let mut narrower = *e;
+    narrower[at as usize..].rotate_left(1);
+    narrower
+}
+
+/// How many monomials of a degree lack one of the `rank` variables.
+pub(crate) fn count_without(rank: u8, degree: u32) -> u32
+    requires some { 0 < rank }
+    requires rank { rank ≤ 6 }
+    requires degree { degree ≤ 6 }
+    ensures { result ≡ count (rank - 1) degree }
+{
+    if rank > 1 {
+        monomials::count(rank - 1, degree)
+    } else if degree == 0 {
+        1
+    } else {
+        0
+    }
+}
+
+/// How many coordinates of degree `degree` a generator of degree `generator` has modulo a label.
+pub(crate) fn block_length(rank: u8, generator: u32, degree: u32) -> u32
+    requires some { 0 < rank }
+    requires rank { rank ≤ 6 }
+    requires degree { degree ≤ 6 }
+    ensures { (l : ℕ) (normal : ℕ → Form → Form) →
+        result ≡ (moved generator (reduced (rank - 1) l normal)).dim degree }
+{
+    if generator <= degree {
+        count_without(rank, degree - generator)
+    } else {
+        0
+    }
+}
+
+/// The monomial without the variable at `at` that stands at place `i` among those of its degree.
+pub(crate) fn monomial_without(rank: u8, at: u8, degree: u32, i: u32) -> [u8; 6]
+    requires rank { rank ≤ 6 }
+    requires variable { at < rank }
+    requires degree { degree ≤ 6 }
+    requires place { i < count (rank - 1) degree }
+    ensures { result ≡ insert at (exponents 5 (rank - 1) degree i) }
+{
+    with_variable(&monomials::monomial_at(rank - 1, degree, i), at)
+}
