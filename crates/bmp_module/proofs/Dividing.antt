@@ -3,7 +3,14 @@ use Rattle.std.proofs.Common.{◌≡◌, ℕ, zero, suc, ◌+◌, ◌-◌, ◌<�
 use Rattle.std.proofs.lemmas.Bool.{cases_eq, and_from, le-leb, lt-leb}
 use Rattle.std.proofs.lemmas.Grind.{same_number_lists}
 use Rattle.bmp_poly.specs.Shifts.{contains, less}
-use Rattle.bmp_poly.proofs.ShiftLemmas.{length-less}
+
+-- a quotient has as many exponents
+length-less : (e m : List ℕ) → length (less e m) ≡ length e
+unfolding less
+length-less [] [] = refl
+length-less [] (y ∷ m) = refl
+length-less (x ∷ e) [] = refl
+length-less (x ∷ e) (y ∷ m) = ap suc (length-less e m)
 
 contains_each : (e m : List ℕ) → length e ≡ length m → ((k : ℕ) → k < length m → get_or m k 0 ≤ get_or e k 0) → contains e m ≡ true
 unfolding contains
