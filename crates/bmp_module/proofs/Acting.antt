@@ -1,5 +1,5 @@
 -- A monomial acts on copies of a module, one copy after another.
-use Rattle.std.proofs.Common.{◌≡◌, ℕ, ◌+◌, ◌%◌, ◌<◌, ◌≤◌, ◌^◌, List, [], length, get_or, refl, sym, ap, ◌∙◌, arith}
+use Rattle.std.proofs.Common.{◌≡◌, ℕ, ◌+◌, ◌%◌, ◌<◌, ◌≤◌, List, [], length, get_or, refl, sym, ap, ◌∙◌, arith}
 use Rattle.std.specs.List.{All, sum, slice_range}
 use Rattle.bmp_math.specs.Vectors.{SameVector}
 use Rattle.bmp_poly.specs.Exponents.{IsMonomial}

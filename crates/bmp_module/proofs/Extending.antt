@@ -1,5 +1,5 @@
 -- Sums of multiples of images, one generator after another.
-use Rattle.std.proofs.Common.{◌≡◌, ℕ, zero, suc, ◌+◌, ◌-◌, ◌*◌, ◌%◌, ◌<◌, ◌≤◌, cond, leb, List, [], ◌∷◌, length, get_or, drop, refl, sym, ap, ap₂, subst, ◌∙◌, inl, inr, arith}
+use Rattle.std.proofs.Common.{◌≡◌, ℕ, zero, suc, ◌+◌, ◌-◌, ◌*◌, ◌%◌, ◌<◌, ◌≤◌, leb, List, [], ◌∷◌, length, get_or, drop, refl, sym, ap, ap₂, subst, ◌∙◌, arith}
 use Rattle.std.specs.List.{sum}
 use Rattle.std.proofs.Math.Path.{fun_ext}
 use Rattle.std.proofs.Math.Nat.{mod-mod, mod-eq_of_lt}
@@ -10,11 +10,11 @@ use Rattle.bmp_math.specs.Sums.{sum_below}
 use Rattle.bmp_math.specs.Congruences.{SameMod}
 use Rattle.bmp_math.proofs.CongruenceLemmas.{same_add, same_mul}
 use Rattle.bmp_math.proofs.SumLemmas.{sum_below-zero, sum_below_more}
-use Rattle.bmp_poly.specs.Exponents.{IsMonomial, count, exponents}
-use Rattle.bmp_graded.specs.Graded.{Graded, IsModule, IsModuleMap}
+use Rattle.bmp_poly.specs.Exponents.{count, exponents}
+use Rattle.bmp_graded.specs.Graded.{Graded, IsModule}
 use Rattle.bmp_graded.specs.Modules.{polynomials, moved, free}
 use Rattle.bmp_graded.specs.Maps.{multiples, extension}
-use Rattle.bmp_graded.proofs.Totals.{total, total_none, total_rest}
+use Rattle.bmp_graded.proofs.Totals.{total, total_rest}
 use Rattle.bmp_graded.proofs.CopiesLemmas.{block_dim, copies_dim, moved_dim, polynomials_dim}
 use Rattle.bmp_graded.proofs.ExtensionMaps.{one_map}
 use Rattle.bmp_module.specs.Images.{image_coordinates}

@@ -1,13 +1,12 @@
 -- Blocks of coordinates modulo a label.
-use Rattle.std.proofs.Common.{◌≡◌, ℕ, suc, ◌+◌, ◌-◌, ◌%◌, ◌<◌, ◌≤◌, List, [], length, get_or, refl, sym, ap, ◌∙◌, arith}
+use Rattle.std.proofs.Common.{◌≡◌, ℕ, suc, ◌+◌, ◌-◌, ◌%◌, ◌<◌, ◌≤◌, List, [], get_or, sym, ap, ◌∙◌, arith}
 use Rattle.std.specs.List.{sum}
 use Rattle.std.proofs.Math.Nat.{zero-mod}
-use Rattle.bmp_poly.specs.Exponents.{count, place, exponents}
+use Rattle.bmp_poly.specs.Exponents.{count, exponents}
 use Rattle.bmp_poly.specs.Forms.{Form}
 use Rattle.bmp_poly.specs.Coefficients.{coefficient, form}
 use Rattle.bmp_poly.specs.Coordinates.{IsLeading}
 use Rattle.bmp_poly.specs.Shifts.{shift}
-use Rattle.bmp_graded.specs.Graded.{Graded}
 use Rattle.bmp_graded.specs.NormalForms.{HasInverses, normal_by}
 use Rattle.bmp_graded.specs.Modules.{moved}
 use Rattle.bmp_graded.specs.Maps.{project_one}

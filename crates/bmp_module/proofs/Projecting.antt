@@ -1,13 +1,13 @@
 -- Elements of a free module to the quotient, one component after another.
-use Rattle.std.proofs.Common.{◌≡◌, ℕ, suc, ◌+◌, ◌-◌, ◌%◌, ◌<◌, ◌≤◌, List, [], length, get_or, refl, sym, ap, ◌∙◌, arith}
+use Rattle.std.proofs.Common.{◌≡◌, ℕ, suc, ◌+◌, ◌-◌, ◌%◌, ◌<◌, ◌≤◌, List, [], length, get_or, sym, ap, ◌∙◌, arith}
 use Rattle.std.specs.List.{All, slice_range}
 use Rattle.std.proofs.Math.Nat.{mod-mod}
 use Rattle.bmp_poly.specs.Coefficients.{coefficient}
 use Rattle.bmp_poly.specs.Coordinates.{IsLeading}
-use Rattle.bmp_graded.specs.Graded.{Graded, IsModuleMap}
+use Rattle.bmp_graded.specs.Graded.{Graded}
 use Rattle.bmp_graded.specs.NormalForms.{HasInverses, normal_by}
 use Rattle.bmp_graded.specs.Modules.{polynomials, moved, copies, free}
-use Rattle.bmp_graded.specs.Quotients.{reduced, quotient}
+use Rattle.bmp_graded.specs.Quotients.{reduced}
 use Rattle.bmp_graded.specs.Maps.{project_one, projection}
 use Rattle.bmp_graded.proofs.CoordinateLemmas.{coefficient_range}
 use Rattle.bmp_graded.proofs.CopiesLemmas.{block_dim, copies_dim}

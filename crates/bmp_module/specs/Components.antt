@@ -1,6 +1,6 @@
 -- One component of a free module modulo a label.
 --   component_of x    the polynomials modulo the label x, by the coefficients of the monomials without its leading variable
-use Rattle.std.specs.Prelude.{ℕ, suc, ◌-◌}
+use Rattle.std.specs.Prelude.{suc, ◌-◌}
 use Rattle.bmp_poly.specs.declared.label.Label.{Label}
 use Rattle.bmp_poly.specs.Labels.{prime_of, rank_of, leading_of, coordinate_of}
 use Rattle.bmp_graded.specs.Graded.{Graded}

@@ -1,4 +1,4 @@
-use Rattle.std.proofs.Common.{◌∙◌, sym, ap}
+use Rattle.std.proofs.Common.{◌∙◌, sym}
 use Rattle.bmp_graded.specs.Modules.{polynomials}
 use Rattle.bmp_graded.proofs.CopiesLemmas.{moved_dim, moved_none, polynomials_dim}
 use Rattle.bmp_module.proofs.blocks.block_length.Goals as goal

@@ -1,4 +1,4 @@
-use Rattle.std.proofs.Common.{◌≡◌, ◌+◌, sum, take, drop}
+use Rattle.std.proofs.Common.{◌≡◌, ◌+◌, sum, drop}
 use Rattle.bmp_module.proofs.blocks.degree_of.Given as goal
 
 abbrev pub invariant-loop-exponent : goal.invariant-loop-exponent

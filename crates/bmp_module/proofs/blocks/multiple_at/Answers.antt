@@ -1,6 +1,6 @@
-use Rattle.std.proofs.Common.{arith, rules, ◌≡◌, ◌+◌, ◌-◌, ◌≤◌, ◌<◌, ◌∙◌, ap, length, sum, ℕ}
+use Rattle.std.proofs.Common.{arith, ◌≡◌, ◌+◌, ◌-◌, ◌≤◌, ◌<◌, length, sum, ℕ}
 use Rattle.std.proofs.lemmas.List.Elements.{All-get_or}
-use Rattle.bmp_poly.specs.Exponents.{IsMonomial, count}
+use Rattle.bmp_poly.specs.Exponents.{count}
 use Rattle.bmp_module.proofs.Multiplying.{rest_is, multiple_read}
 use Rattle.bmp_module.proofs.blocks.multiple_at.Goals as goal
 

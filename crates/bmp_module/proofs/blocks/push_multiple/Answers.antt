@@ -1,7 +1,6 @@
-use Rattle.std.proofs.Common.{arith, rules, ◌≡◌, ◌+◌, ◌-◌, ◌≤◌, ◌<◌, ◌∙◌, sym, ap, length, sum, ℕ}
-use Rattle.bmp_poly.specs.Exponents.{IsMonomial, count, place, exponents}
+use Rattle.std.proofs.Common.{arith, ◌≡◌, ◌+◌, ◌-◌, ◌≤◌, ◌∙◌, sym, ap, length, sum}
+use Rattle.bmp_poly.specs.Exponents.{count}
 use Rattle.bmp_poly.specs.Coefficients.{coefficient}
-use Rattle.bmp_poly.specs.Shifts.{shift}
 use Rattle.bmp_graded.specs.Modules.{polynomials, moved}
 use Rattle.bmp_graded.proofs.CopiesLemmas.{moved_dim, moved_none, polynomials_dim}
 use Rattle.bmp_module.proofs.Appending.{appended_none, appended_more, appended_as}

@@ -1,4 +1,3 @@
-use Rattle.std.proofs.Common.{ℕ}
 use Rattle.bmp_poly.specs.Exponents.{place, exponents}
 use Rattle.bmp_poly.specs.Coefficients.{coefficient}
 use Rattle.bmp_poly.specs.Shifts.{shift}

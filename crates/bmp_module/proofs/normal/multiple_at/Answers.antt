@@ -1,6 +1,6 @@
-use Rattle.std.proofs.Common.{arith, ◌≡◌, ◌-◌, ◌≤◌, ◌<◌, length, sum}
+use Rattle.std.proofs.Common.{arith, ◌≡◌, ◌-◌, ◌<◌, length}
 use Rattle.std.proofs.lemmas.List.Elements.{All-get_or}
-use Rattle.bmp_module.proofs.Narrowing.{narrowed, narrowed_read, holds_leading}
+use Rattle.bmp_module.proofs.Narrowing.{narrowed, narrowed_read}
 use Rattle.bmp_module.proofs.normal.multiple_at.Goals as goal
 
 pub degree_of-requires : goal.degree_of-requires

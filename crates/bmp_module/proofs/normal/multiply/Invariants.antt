@@ -1,4 +1,4 @@
-use Rattle.std.proofs.Common.{ℕ, ◌-◌, []}
+use Rattle.std.proofs.Common.{◌-◌, []}
 use Rattle.bmp_poly.specs.Exponents.{exponents}
 use Rattle.bmp_poly.specs.Coefficients.{coefficient}
 use Rattle.bmp_poly.specs.Shifts.{shift}

@@ -1,6 +1,4 @@
-use Rattle.std.proofs.Common.{arith, ◌≡◌, ◌∙◌, ◌-◌, [], ◌++◌, sym, ap, length, get_or, suc}
-use Rattle.bmp_poly.specs.Exponents.{count}
-use Rattle.bmp_graded.specs.NormalForms.{normal_by}
+use Rattle.std.proofs.Common.{arith, ◌∙◌, ◌-◌, ◌++◌, sym, ap, length}
 use Rattle.bmp_graded.specs.Modules.{moved, polynomials}
 use Rattle.bmp_graded.proofs.CopiesLemmas.{moved_dim, moved_none, polynomials_dim}
 use Rattle.bmp_module.specs.Components.{component_of}

@@ -1,4 +1,4 @@
-use Rattle.std.proofs.Common.{arith, ◌≡◌, ◌+◌, ◌-◌, ◌∙◌, ap, get_or, length, sum, suc}
+use Rattle.std.proofs.Common.{◌+◌, ◌-◌, ap, get_or, length, sum, suc}
 use Rattle.bmp_poly.specs.Coefficients.{coefficient}
 use Rattle.bmp_graded.specs.NormalForms.{normal_by}
 use Rattle.bmp_module.proofs.NormalBlocks.{pure_sized, zeros_appended, product_appended}

@@ -1,4 +1,4 @@
-use Rattle.std.proofs.Common.{ℕ, ◌≡◌, ◌-◌, ◌%◌, get_or}
+use Rattle.std.proofs.Common.{◌-◌, ◌%◌, get_or}
 use Rattle.bmp_poly.specs.Exponents.{exponents}
 use Rattle.bmp_poly.specs.Coefficients.{form}
 use Rattle.bmp_graded.specs.NormalForms.{normal_by}

@@ -1,5 +1,4 @@
-use Rattle.std.proofs.Common.{arith, ◌≡◌, refl}
-use Rattle.bmp_module.proofs.Appending.{appended_none, appended_more, appended_as}
+use Rattle.bmp_module.proofs.Appending.{appended_none, appended_more}
 use Rattle.bmp_module.proofs.normal.push_zeros.Goals as goal
 
 pub loop-init : goal.loop-init

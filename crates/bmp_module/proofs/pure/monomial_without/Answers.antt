@@ -1,4 +1,4 @@
-use Rattle.std.proofs.Common.{◌≡◌, ◌∙◌, ◌-◌, ap, arith, take}
+use Rattle.std.proofs.Common.{◌∙◌, ◌-◌, ap, arith, take}
 use Rattle.bmp_graded.specs.Quotients.{insert}
 use Rattle.bmp_graded.proofs.PureLemmas.{exponents_narrower}
 use Rattle.bmp_module.proofs.pure.monomial_without.Goals as goal

@@ -1,4 +1,4 @@
-use Rattle.std.proofs.Common.{arith, rules, ◌≡◌, ◌∙◌, ap, length, drop}
+use Rattle.std.proofs.Common.{rules, ◌≡◌, length}
 use Rattle.bmp_module.proofs.Rotating.{put_right}
 use Rattle.bmp_module.proofs.pure.with_variable.Goals as goal
 

@@ -1,4 +1,4 @@
-use Rattle.std.proofs.Common.{arith, rules, ◌≡◌, length}
+use Rattle.std.proofs.Common.{rules, ◌≡◌, length}
 use Rattle.bmp_module.proofs.Rotating.{put_left}
 use Rattle.bmp_module.proofs.pure.without_variable.Goals as goal
 

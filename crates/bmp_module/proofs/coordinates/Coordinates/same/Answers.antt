@@ -1,4 +1,4 @@
-use Rattle.std.proofs.Common.{arith, rules, ◌≡◌, ◌≢◌, ◌<◌, ◌∙◌, sym, length, true≢false}
+use Rattle.std.proofs.Common.{arith, rules, ◌<◌, ◌∙◌, sym, length, true≢false}
 use Rattle.bmp_poly.proofs.CoefficientLemmas.{coefficient_read}
 use Rattle.bmp_module.proofs.Changing.{same_here, same_more}
 use Rattle.bmp_module.proofs.coordinates.Coordinates.same.Goals as goal

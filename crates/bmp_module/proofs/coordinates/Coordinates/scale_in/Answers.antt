@@ -1,4 +1,4 @@
-use Rattle.std.proofs.Common.{arith, rules, ◌<◌, length}
+use Rattle.std.proofs.Common.{rules, ◌<◌, length}
 use Rattle.bmp_module.proofs.Changing.{scaled_more}
 use Rattle.bmp_module.proofs.coordinates.Coordinates.scale_in.Goals as goal
 

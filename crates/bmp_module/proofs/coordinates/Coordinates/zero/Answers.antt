@@ -1,4 +1,4 @@
-use Rattle.std.proofs.Common.{arith, ◌≡◌, ◌+◌, ◌<◌, ◌≤◌, [], length}
+use Rattle.std.proofs.Common.{arith, ◌≡◌, ◌+◌, [], length}
 use Rattle.bmp_module.proofs.Appending.{appended_none, appended_more, appended_zero}
 use Rattle.bmp_module.proofs.coordinates.Coordinates.zero.Goals as goal
 

@@ -1,4 +1,4 @@
-use Rattle.std.proofs.Common.{arith, rules, ◌≡◌, ◌+◌, ◌≤◌, ◌<◌, ◌^◌, ◌∙◌, sym, ap, length, get_or, set, ℕ, List, inl, inr}
+use Rattle.std.proofs.Common.{arith, rules, ◌≡◌, ◌<◌, ◌∙◌, sym, ap, length, get_or, set, ℕ, List, inl, inr}
 use Rattle.bmp_poly.specs.Coefficients.{coefficient}
 use Rattle.bmp_poly.proofs.CoefficientLemmas.{coefficient_set_same, coefficient_set_other, coefficient_past}
 use Rattle.std.proofs.lemmas.Bool.{cases_lt}

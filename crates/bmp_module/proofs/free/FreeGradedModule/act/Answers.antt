@@ -1,5 +1,5 @@
-use Rattle.std.proofs.Common.{arith, rules, ◌≡◌, ◌+◌, ◌≤◌, ◌<◌, ◌^◌, ◌∙◌, length, sum, get_or, refl}
-use Rattle.bmp_graded.specs.Modules.{polynomials, moved}
+use Rattle.std.proofs.Common.{arith, rules, ◌+◌, ◌≤◌, ◌<◌, ◌^◌, length, refl}
+use Rattle.bmp_graded.specs.Modules.{polynomials}
 use Rattle.bmp_graded.proofs.GradedLemmas.{polynomials_is_module}
 use Rattle.bmp_module.proofs.Acting.{acted_start, acted_inside, acted_more, acted_element, acted_numbers}
 use Rattle.bmp_module.proofs.free.FreeGradedModule.act.Goals as goal

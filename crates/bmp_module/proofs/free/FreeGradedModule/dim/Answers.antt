@@ -1,4 +1,4 @@
-use Rattle.std.proofs.Common.{arith, ◌∙◌, sym, ◌≡◌, ◌+◌}
+use Rattle.std.proofs.Common.{arith, ◌∙◌, sym}
 use Rattle.bmp_graded.specs.Modules.{polynomials}
 use Rattle.bmp_graded.proofs.Totals.{total_step, total_end}
 use Rattle.bmp_graded.proofs.CopiesLemmas.{block_dim, copies_dim}

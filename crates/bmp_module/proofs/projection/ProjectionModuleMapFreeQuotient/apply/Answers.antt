@@ -1,4 +1,4 @@
-use Rattle.std.proofs.Common.{arith, rules, ◌≡◌, ◌+◌, ◌≤◌, ◌<◌, ◌^◌, ◌∙◌, length}
+use Rattle.std.proofs.Common.{arith, rules, ◌+◌, ◌≤◌, ◌<◌, ◌^◌, length}
 use Rattle.bmp_module.proofs.Projecting.{projected_start, projected_inside, projected_more, projected_element, projected_numbers}
 use Rattle.bmp_module.proofs.projection.ProjectionModuleMapFreeQuotient.apply.Goals as goal
 

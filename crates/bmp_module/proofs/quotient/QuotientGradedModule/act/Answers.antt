@@ -1,4 +1,4 @@
-use Rattle.std.proofs.Common.{arith, rules, ◌≡◌, ◌+◌, ◌-◌, ◌≤◌, ◌<◌, ◌^◌, ◌∙◌, length, sum, get_or, suc, ap, ℕ}
+use Rattle.std.proofs.Common.{arith, rules, ◌≡◌, ◌+◌, ◌-◌, ◌≤◌, ◌<◌, ◌^◌, ◌∙◌, length, get_or, suc, ap, ℕ}
 use Rattle.std.proofs.Math.Nat.{mod-mod}
 use Rattle.bmp_poly.specs.Forms.{Form}
 use Rattle.bmp_graded.specs.Modules.{moved}

@@ -1,4 +1,4 @@
-use Rattle.std.proofs.Common.{arith, ◌∙◌, sym, ap, ◌≡◌, ◌+◌, ◌-◌, get_or, suc, ℕ, List}
+use Rattle.std.proofs.Common.{arith, ◌∙◌, sym, ap, ◌≡◌, ◌-◌, get_or, suc, ℕ}
 use Rattle.bmp_poly.specs.Forms.{Form}
 use Rattle.bmp_graded.specs.Modules.{moved}
 use Rattle.bmp_graded.specs.NormalForms.{normal_by}
