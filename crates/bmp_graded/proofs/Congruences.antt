@@ -1,6 +1,6 @@
 -- Equal in the quotient: the linear form divides the difference at each generator.
-use Rattle.std.proofs.Common.{◌≡◌, ℕ, suc, ◌+◌, ◌-◌, ◌*◌, ◌%◌, ◌≤◌, true, false, cond, eqb, leb, ltb, List, [], ◌∷◌, length, get_or, ◌↔◌, zero, ◌<◌, refl, sym, ap, ◌∙◌, inl, inr, arith, eq-eqb, ne_eqb}
-use Rattle.std.proofs.lemmas.Bool.{cases_lt, cases_eq, cond-true, cond-false, lt-leb, le-leb, lt-ltb, le-ltb}
+use Rattle.std.proofs.Common.{◌≡◌, ℕ, suc, ◌+◌, ◌-◌, ◌*◌, ◌%◌, ◌≤◌, true, false, cond, leb, ltb, List, [], ◌∷◌, length, get_or, ◌↔◌, zero, ◌<◌, refl, sym, ap, ◌∙◌, inl, inr, arith}
+use Rattle.std.proofs.lemmas.Bool.{cases_lt, cond-true, cond-false, lt-leb, le-leb, lt-ltb, le-ltb}
 use Rattle.bmp_math.specs.Congruences.{SameMod}
 use Rattle.bmp_poly.specs.Exponents.{count, place, exponents}
 use Rattle.bmp_poly.specs.Forms.{IsLabel}

@@ -1,5 +1,5 @@
 -- Numbers of lists of field values.
-use Rattle.std.proofs.Common.{◌≡◌, ℕ, zero, suc, ◌+◌, ◌-◌, ◌<◌, ◌≤◌, List, [], ◌∷◌, ◌++◌, length, take, drop, refl, arith, length-append}
+use Rattle.std.proofs.Common.{◌≡◌, ℕ, zero, suc, ◌+◌, ◌-◌, ◌<◌, List, [], ◌∷◌, ◌++◌, length, take, drop, refl, arith, length-append}
 use Rattle.std.specs.List.{All, slice_range}
 use Rattle.bmp_poly.specs.Coefficients.{coefficient}
 

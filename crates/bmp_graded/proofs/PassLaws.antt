@@ -1,5 +1,5 @@
 -- Free modules modulo a label are modules.
-use Rattle.std.proofs.Common.{◌≡◌, ◌≢◌, ℕ, zero, suc, ◌+◌, ◌-◌, ◌*◌, ◌%◌, ◌<◌, ◌≤◌, Bool, true, false, cond, eqb, eqb-true, List, [], ◌∷◌, get_or, refl, sym, ap, subst, ◌∙◌, inl, inr, arith, eq-eqb, ne_eqb}
+use Rattle.std.proofs.Common.{◌≡◌, ℕ, zero, suc, ◌+◌, ◌-◌, ◌*◌, ◌%◌, ◌<◌, ◌≤◌, List, get_or, refl, sym, ap, subst, ◌∙◌, inl, inr, arith, eq-eqb, ne_eqb}
 use Rattle.std.proofs.lemmas.Bool.{cases_eq}
 use Rattle.std.proofs.Math.Nat.{mod-eq_of_lt}
 use Rattle.bmp_poly.specs.Coordinates.{IsLeading}
@@ -11,7 +11,7 @@ use Rattle.bmp_poly.proofs.PlaceLemmas.{exponents_stand, StandsAt}
 use Rattle.bmp_poly.proofs.LabelLemmas.{congruent_refl, congruent_sym, congruent_trans}
 use Rattle.bmp_poly.proofs.NormalForms.{pure_congruent_same}
 use Rattle.bmp_poly.proofs.Reducing.{ReducedBelow, reduced_start, reduced_past, reduced_more, reduced_end}
-use Rattle.bmp_graded.specs.Graded.{Graded, IsModule}
+use Rattle.bmp_graded.specs.Graded.{IsModule}
 use Rattle.bmp_graded.proofs.GradedLemmas.{copies_is_module}
 use Rattle.bmp_graded.specs.Quotients.{reduced}
 use Rattle.bmp_graded.proofs.ReducedLaws.{reduced_is_module}

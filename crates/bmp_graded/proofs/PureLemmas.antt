@@ -1,5 +1,5 @@
 -- Monomials without one variable, as lists of one exponent fewer or with a further 0.
-use Rattle.std.proofs.Common.{◌≡◌, ℕ, zero, suc, ◌+◌, ◌-◌, ◌<◌, ◌≤◌, List, [], ◌∷◌, ◌++◌, length, get_or, take, drop, refl, sym, ap, ap₂, ◌∙◌, arith, take_all, drop-cons, drop_of_length-le, length-append}
+use Rattle.std.proofs.Common.{◌≡◌, ℕ, zero, suc, ◌+◌, ◌-◌, ◌<◌, ◌≤◌, List, [], ◌∷◌, ◌++◌, length, get_or, take, drop, refl, ap, ap₂, ◌∙◌, arith, drop-cons, drop_of_length-le, length-append}
 use Rattle.std.specs.List.{sum}
 use Rattle.bmp_math.specs.Sums.{sum_below}
 use Rattle.bmp_poly.specs.Exponents.{IsMonomial, count, place, exponents, zeros, level}

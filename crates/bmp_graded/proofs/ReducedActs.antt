@@ -1,7 +1,7 @@
 -- Monomials times polynomials modulo a linear form, by the normal form of the product.
-use Rattle.std.proofs.Common.{◌≡◌, ℕ, zero, suc, ◌+◌, ◌-◌, ◌*◌, ◌%◌, ◌<◌, ◌≤◌, List, [], ◌++◌, length, get_or, refl, sym, ap, ◌∙◌, arith}
+use Rattle.std.proofs.Common.{◌≡◌, ℕ, zero, suc, ◌-◌, ◌%◌, ◌<◌, ◌≤◌, List, get_or, refl, sym, ap, ◌∙◌, arith}
 use Rattle.bmp_math.specs.Congruences.{SameMod}
-use Rattle.bmp_poly.specs.Exponents.{IsMonomial, count, place, exponents}
+use Rattle.bmp_poly.specs.Exponents.{count, place, exponents}
 use Rattle.bmp_poly.specs.Forms.{Form, SameForm}
 use Rattle.bmp_poly.specs.Coordinates.{IsLeading}
 use Rattle.bmp_poly.specs.Shifts.{shift}
@@ -9,8 +9,7 @@ use Rattle.bmp_poly.proofs.PlaceLemmas.{exponents-place, place_below}
 use Rattle.bmp_graded.specs.NormalForms.{HasInverses, normal_by}
 use Rattle.bmp_graded.specs.Modules.{moved}
 use Rattle.bmp_graded.specs.Quotients.{insert, pure_form, reduced}
-use Rattle.bmp_graded.specs.Maps.{project_one}
-use Rattle.bmp_graded.proofs.CopiesLemmas.{moved_dim, moved_act_from}
+use Rattle.bmp_graded.proofs.CopiesLemmas.{moved_act_from}
 use Rattle.bmp_graded.proofs.PassLaws.{normal_respects}
 use Rattle.bmp_graded.proofs.PureLemmas.{without_monomial}
 

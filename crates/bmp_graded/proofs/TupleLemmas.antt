@@ -1,10 +1,7 @@
 -- Coordinates of finite direct sums, part after part.
-use Rattle.std.proofs.Common.{◌≡◌, ℕ, zero, suc, ◌+◌, ◌-◌, ◌%◌, ◌<◌, ◌≤◌, ltb, cond, List, [], ◌∷◌, length, get_or, take, map, refl, sym, ap, subst, ◌∙◌, inl, inr, arith}
-use Rattle.std.specs.List.{All}
+use Rattle.std.proofs.Common.{◌≡◌, ℕ, zero, suc, ◌+◌, ◌-◌, ◌<◌, ltb, List, [], ◌∷◌, length, get_or, take, map, refl, sym, ap, subst, ◌∙◌, inl, inr, arith}
 use Rattle.std.proofs.Math.Path.{fun_ext}
 use Rattle.std.proofs.lemmas.Bool.{cases_lt, cond-true, cond-false, lt-ltb, le-ltb}
-use Rattle.bmp_math.specs.Vectors.{SameVector}
-use Rattle.bmp_poly.specs.Exponents.{IsMonomial}
 use Rattle.bmp_graded.specs.Graded.{Graded, IsModule}
 use Rattle.bmp_graded.specs.Modules.{nothing, both, direct_sum}
 use Rattle.bmp_graded.specs.Tuples.{common_rank, FitEach, IsTuple, joined_coordinates}
@@ -87,11 +84,12 @@ sum_over graded p r (m ∷ ms) laws =
 pub tuple_laws : {M : Type 0} (Fits : M → Type 0) (rank : M → ℕ) (graded : M → Graded) (p : ℕ) (ms : List M) → ((m : M) → Fits m → IsModule p (rank m) (graded m)) → FitEach Fits rank ms → IsModule p (common_rank (map rank ms)) (direct_sum (map graded ms))
 tuple_laws Fits rank graded p ms laws fits = sum_over graded p (common_rank (map rank ms)) ms (λ k m l. let both = fits k m l in rw (← both.1) (laws (get_or ms k m) both.0))
 
--- what holds of the coordinates of each element of degree d holds of those of the tuple
-member : {X : Type 0} (xs : List X) (k : ℕ) → k < length xs → X
+-- a member of a list that has a place k
+pub member : {X : Type 0} (xs : List X) (k : ℕ) → k < length xs → X
 member [] k inside = absurd (let none : k < 0 = inside in omega arith)
 member (x ∷ xs) k inside = x
 
+-- what holds of the coordinates of each element holds of those of the tuple
 pub joined_each : {M E : Type 0} (P : ℕ → Type 0) (dim : M → ℕ) (coordinate : M → E → ℕ → ℕ) (ms : List M) (es : List E) → length es ≡ length ms → ((k j : ℕ) (m : M) (e : E) → k < length ms → j < dim (get_or ms k m) → P (coordinate (get_or ms k m) (get_or es k e) j)) → (i : ℕ) → i < total dim ms → P (joined_coordinates dim coordinate ms es i)
 joined_each P dim coordinate ms es sized each i inside =
     let at : Located dim ms i = locate dim ms i inside in

@@ -9,3 +9,8 @@ pub mod Walking
 pub mod Acting
 pub mod Projecting
 pub mod Extending
+pub mod TupledChanges
+pub mod TupledMultiples
+pub mod TupledPlaces
+pub mod TupledSums
+pub mod Tupling

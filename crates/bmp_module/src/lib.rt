@@ -1,8 +1,8 @@
 //! Graded modules over the polynomials, and maps between them.
 //!
 //! [`GradedModule`] and [`ModuleMap`] say what a graded module and a map of graded modules are; code above uses
-//! them through these traits alone, as [`uses`] does. [`Free`] and [`Quotient`] are modules, [`Projection`] and
-//! [`Linear`] maps. The degree of a variable is 1, and no degree passes 6.
+//! them through these traits alone, as [`uses`] does. [`Free`], [`Quotient`] and [`Tuple`] are modules, [`Projection`]
+//! and [`Linear`] maps. The degree of a variable is 1, and no degree passes 6.
 #![tactic(auto)]
 
 mod blocks;
@@ -15,6 +15,9 @@ mod normal;
 pub mod projection;
 mod pure;
 pub mod quotient;
+#[cfg(test)]
+mod tests;
+pub mod tuple;
 pub mod uses;
 
 pub use coordinates::Coordinates;
@@ -24,3 +27,4 @@ pub use linear::Linear;
 pub use map::ModuleMap;
 pub use projection::Projection;
 pub use quotient::Quotient;
+pub use tuple::Tuple;
