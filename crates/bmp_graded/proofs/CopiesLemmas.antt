@@ -1,5 +1,5 @@
 -- Copies of a module, one after another.
-use Rattle.std.proofs.Common.{◌≡◌, ℕ, ◌+◌, ◌-◌, ◌^◌, ◌<◌, ◌≤◌, cond, leb, ltb, List, [], ◌∷◌, length, refl, ap, inl, inr, arith}
+use Rattle.std.proofs.Common.{◌≡◌, ℕ, ◌+◌, ◌*◌, ◌-◌, ◌^◌, ◌<◌, ◌≤◌, cond, leb, ltb, List, [], ◌∷◌, length, refl, ap, inl, inr, arith}
 use Rattle.std.proofs.lemmas.Bool.{cases_lt, cond-true, cond-false, lt-leb, le-leb}
 use Rattle.bmp_poly.specs.Exponents.{count}
 use Rattle.bmp_poly.proofs.Scanning.{count_small}
@@ -46,8 +46,11 @@ block_small r d g wide small = elim (cases_lt d g) [
   | inr from ↦ omega (arith, moved_dim (polynomials r) g d from, polynomials_dim r (d - g), count_small r (d - g) wide (omega arith))
 ]
 
+pub free_at_most : (r d : ℕ) (gs : List ℕ) → r ≤ 6 → d ≤ 6 → (free r gs).dim d ≤ 462 * length gs
+free_at_most r d gs wide small = omega (arith, copies_dim (polynomials r) d gs, total_small (block_dim (polynomials r) d) 462 gs (λ g. block_small r d g wide small))
+
 pub free_small : (r d : ℕ) (gs : List ℕ) → r ≤ 6 → d ≤ 6 → length gs < 2 ^ 32 → (free r gs).dim d < 2 ^ 64
-free_small r d gs wide small few = omega (arith, copies_dim (polynomials r) d gs, total_small (block_dim (polynomials r) d) 462 gs (λ g. block_small r d g wide small))
+free_small r d gs wide small few = omega (arith, free_at_most r d gs wide small)
 
 -- below its generator a moved module has no multiples
 pub moved_act_none : (X : Graded) (g d t i : ℕ) (m : List ℕ) (v : ℕ → ℕ) → d < g → (moved g X).act m d t v i ≡ 0

@@ -1,5 +1,5 @@
 //! Small modules with answers worked out by hand.
-use crate::{Free, GradedModule, Quotient};
+use crate::{Free, GradedModule, Quotient, Tuple};
 use bmp_field::PrimeField;
 use bmp_poly::Label;
 use std::test::Fail;
@@ -33,6 +33,18 @@ fn dimensions_of_a_quotient(rt: HostRuntime) -> Result<(), Fail> {
         <Quotient as GradedModule<PrimeField>>::dim(&quotient, 2),
         0
     );
+    Ok(())
+}
+
+/// The sum of a module with a generator of degree 0 and one with a generator of degree 1, in two variables.
+#[test]
+fn dimensions_of_a_sum(rt: HostRuntime) -> Result<(), Fail> {
+    let mut sum = Tuple::new(rt.alloc());
+    sum.push(Free::new(rt.alloc(), 2, &[0])?)?;
+    sum.push(Free::new(rt.alloc(), 2, &[1])?)?;
+    assert_eq!(rt; <Tuple<Free> as GradedModule<PrimeField>>::dim(&sum, 0), 1);
+    assert_eq!(rt; <Tuple<Free> as GradedModule<PrimeField>>::dim(&sum, 1), 3);
+    assert_eq!(rt; <Tuple<Free> as GradedModule<PrimeField>>::dim(&sum, 2), 5);
     Ok(())
 }
 
