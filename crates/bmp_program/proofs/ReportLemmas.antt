@@ -7,7 +7,7 @@ use Rattle.bmp_program.specs.Reports.{input_limit, CheckReport, CommandReport, I
 use Rattle.bmp_program.specs.Runs.{Report, Holds, Reports, DecidedBy, IsDecided}
 use Rattle.bmp_program.specs.declared.words.CommandWord.{CommandWord}
 use Rattle.bmp_program.specs.declared.status.Status.{Status}
-use Rattle.bmp_program.specs.declared.status.Status.TheVariants.{Done, Refused, BadText, BadJob, ReadFault, WriteFault, NoMemory, TooLong, NotBuilt, Usage}
+use Rattle.bmp_program.specs.declared.status.Status.TheVariants.{Done, Refused, BadText, BadJob, GkmFailed, ReadFault, WriteFault, NoMemory, TooLong, NotBuilt, Usage}
 
 -- all that is left came
 pub whole_held : (left after : Option (List ℕ)) (input : List ℕ) → Passes left after input → IsAtEnd after → Holds left input
@@ -40,6 +40,7 @@ check_decided Done left rose input text held is = (input, held, is)
 check_decided Refused left rose input text held is = (input, held, is)
 check_decided BadText left rose input text held is = (input, held, is)
 check_decided BadJob left rose input text held is = (input, held, is)
+check_decided GkmFailed left rose input text held is = (input, held, is)
 check_decided ReadFault left rose input text held is = absurd is.1.2
 check_decided WriteFault left rose input text held is = absurd is.1.2
 check_decided NoMemory left rose input text held is = absurd is.1.2

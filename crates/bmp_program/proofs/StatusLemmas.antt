@@ -15,7 +15,7 @@ use Rattle.bmp_program.specs.Reports.{input_limit, IsRead, IsCertOf, CertReport,
 use Rattle.bmp_program.specs.declared.words.CommandWord.{CommandWord}
 use Rattle.bmp_program.specs.declared.words.CommandWord.TheVariants.{Check}
 use Rattle.bmp_program.specs.declared.status.Status.{Status}
-use Rattle.bmp_program.specs.declared.status.Status.TheVariants.{Done, Refused, BadText, BadJob, ReadFault, WriteFault, NoMemory, TooLong, NotBuilt, Usage}
+use Rattle.bmp_program.specs.declared.status.Status.TheVariants.{Done, Refused, BadText, BadJob, GkmFailed, ReadFault, WriteFault, NoMemory, TooLong, NotBuilt, Usage}
 
 -- the text of a certificate is read as that certificate
 read_as : (c : Cert) (input : List ℕ) → IsCertOf c input → whole cert input ≡ Ok c
@@ -34,6 +34,7 @@ cert_case c BadJob text is = inl (refl, is.0)
 cert_case c Refused text is = inr (inl (refl, is.0, (is.1.0, is.1.1)))
 cert_case c Done text is = inr (inr (refl, is.0, is.1))
 cert_case c BadText text is = absurd is
+cert_case c GkmFailed text is = absurd is
 cert_case c ReadFault text is = absurd is
 cert_case c WriteFault text is = absurd is
 cert_case c NoMemory text is = absurd is
@@ -74,6 +75,7 @@ input_case input BadText text is = inr (inr (inl (refl, is.0, (is.1.0, is.1.1)))
 input_case input BadJob text is = at_cert input BadJob text is
 input_case input Refused text is = at_cert input Refused text is
 input_case input Done text is = at_cert input Done text is
+input_case input GkmFailed text is = at_cert input GkmFailed text is
 input_case input ReadFault text is = at_cert input ReadFault text is
 input_case input WriteFault text is = at_cert input WriteFault text is
 input_case input NoMemory text is = at_cert input NoMemory text is

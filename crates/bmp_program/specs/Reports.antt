@@ -48,7 +48,8 @@ IsRead input = (length input ≤ input_limit) × (is_not_built input ≡ false)
 abbrev pub IsCertOf : Cert → List ℕ → Type 0
 IsCertOf c input = IsWellFormed c × (input ≡ cert_text c)
 
--- in order: the certificate's job breaks a rule, with the first; a comparison fails, with the first; all holds
+-- in order: the certificate's job breaks a rule, with the first; a comparison fails, with the first; all holds. Graphs of
+-- one vertex have no edges, so that none fails the GKM condition
 abbrev pub CertReport : Cert → Status → List ℕ → Type 0
 CertReport c BadJob text = (KeepsRules c.job → ⊥)
     × ((fault : JobFault) × IsFirstFault c.job fault × (text ≡ job_fault_line c.job.rank fault))

@@ -1,8 +1,8 @@
 //! How a run ended.
 
 /// How a run of the program ended, with the number that the process ends with. Where several would fit, the one that
-/// comes first in this order counts: `Usage`, `ReadFault`, `TooLong`, `NotBuilt`, `BadText`, `BadJob`, `Refused`, and
-/// last `WriteFault`. `NoMemory` may come anywhere.
+/// comes first in this order counts: `Usage`, `ReadFault`, `TooLong`, `NotBuilt`, `BadText`, `BadJob`, `GkmFailed`,
+/// `Refused`, and last `WriteFault`. `NoMemory` may come anywhere.
 #[derive(Clone, Copy, Debug, PartialEq, Eq)]
 pub enum Status {
     /// All was done and written.
@@ -13,6 +13,9 @@ pub enum Status {
     BadText = 2,
     /// The certificate's job breaks a rule.
     BadJob = 3,
+    /// At a vertex of the job's moment graph two edges have proportional labels. No input has this answer as long as
+    /// only graphs of one vertex are read: they have no edges.
+    GkmFailed = 4,
     /// The source failed.
     ReadFault = 5,
     /// The sink failed.
