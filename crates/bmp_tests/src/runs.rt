@@ -7,7 +7,7 @@ use std::test::Fail;
 use std::thread::Threads;
 
 /// The words of a command line, behind the program's name.
-pub fn words_of(alloc: Global, line: &str) -> Result<Vec<String>, AllocError> {
+pub(crate) fn words_of(alloc: Global, line: &str) -> Result<Vec<String>, AllocError> {
     let mut words = Vec::new(alloc);
     words.push(String::from_str(alloc, "bmp")?)?;
     for word in line.split(' ') {
@@ -17,7 +17,7 @@ pub fn words_of(alloc: Global, line: &str) -> Result<Vec<String>, AllocError> {
 }
 
 /// Asserts how a command line ends on an input, and what it writes, where nothing fails.
-pub fn assert_run(
+pub(crate) fn assert_run(
     rt: &(impl Abort + Threads + Sync),
     alloc: Global,
     line: &str,
@@ -36,7 +36,7 @@ pub fn assert_run(
 }
 
 /// The text with another line at one place, counted from 1.
-pub fn with_line(
+pub(crate) fn with_line(
     alloc: Global,
     text: &str,
     place: usize,
