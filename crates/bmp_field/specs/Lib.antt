@@ -1,4 +1,5 @@
 pub mod FieldLaws
+pub mod Runs
 pub mod Primes
 pub mod Tables
 pub mod PrimeFields

@@ -1,6 +1,7 @@
 //! What a field of numbers modulo a prime is.
-ghost use Rattle.std.specs.Prelude.{◌≡◌, ◌≢◌, ◌↔◌, ℕ, ◌+◌, ◌*◌, ◌%◌, ◌<◌, IsTrue};
+ghost use Rattle.std.specs.Prelude.{◌≡◌, ◌≢◌, ◌↔◌, ℕ, ◌+◌, ◌*◌, ◌%◌, ◌<◌, IsTrue, length};
 ghost use Rattle.bmp_field.specs.FieldLaws.{FieldLaws};
+ghost use Rattle.bmp_field.specs.Runs.{AreBelow, IsMultipleAdded};
 
 /// A field of `size` values, from 2 to 256 of them, each of which stands for a number below `size`.
 ///
@@ -74,6 +75,21 @@ pub trait Field {
         requires { n < size self.now }
         ensures value { is_value self.now result }
         ensures number { num self.now result ≡ n };
+
+    /// Adds `c` times each of the numbers `from` to the number at the same place of `into`.
+    fn add_multiple(&self, c: Self::E, from: &[u8], into: &mut [u8])
+        requires factor { is_value self.now c }
+        requires as_many { length from.now ≡ length into.old }
+        requires numbers { AreBelow (size self.now) from.now }
+        requires sums { AreBelow (size self.now) into.old }
+        ensures { IsMultipleAdded (size self.now) (num self.now c) from.now into.old into.new }
+    {
+        for (j, number) in into.iter_mut().enumerate() {
+            let sum = self.from_num(u32::from(*number));
+            let term = self.mul(c, self.from_num(u32::from(from[j])));
+            *number = self.num(self.add(sum, term)) as u8;
+        }
+    }
 
     /// Values and the numbers below `size` are the same, and each number but 0 has an inverse.
     ghost laws: { FieldLaws size is_value num };

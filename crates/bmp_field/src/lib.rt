@@ -5,6 +5,7 @@
 #![tactic(auto)]
 
 pub mod field;
+mod multiples;
 pub mod prime;
 
 pub use field::Field;

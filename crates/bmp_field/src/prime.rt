@@ -4,6 +4,7 @@ ghost use Rattle.bmp_field.specs.Primes.{is_listed, is_taken};
 ghost use Rattle.bmp_field.specs.Tables.{IsReciprocal, HoldsInverses};
 
 use crate::field::Field;
+use crate::multiples::{add_once, add_products, subtract_once};
 use thiserror::Error;
 
 /// The number is none of 2, 3, 5, 7, 11 and 13.
@@ -141,6 +142,16 @@ impl Field for PrimeField {
 
     fn from_num(&self, n: u32) -> u8 {
         n as u8
+    }
+
+    fn add_multiple(&self, c: u8, from: &[u8], into: &mut [u8]) {
+        if c == 1 {
+            add_once(self.prime, from, into);
+        } else if c == self.prime - 1 {
+            subtract_once(self.prime, from, into);
+        } else {
+            add_products(self.prime, self.reciprocal, c, from, into);
+        }
     }
 
     ghost laws = { prime_laws };

@@ -14,7 +14,7 @@ use Rattle.bmp_linear.proofs.FreeLemmas.{free_at, free_within, length-free_place
 use Rattle.bmp_linear.proofs.Spanning.{Passed, spans}
 
 -- where a place of the list stands
-place_found : (ps : List ℕ) (j : ℕ) → has_place ps j ≡ true → (s : ℕ) × (s < length ps) × (get_or ps s 0 ≡ j)
+pub place_found : (ps : List ℕ) (j : ℕ) → has_place ps j ≡ true → (s : ℕ) × (s < length ps) × (get_or ps s 0 ≡ j)
 place_found [] j h = absurd (true≢false (sym h))
 place_found (q ∷ qs) j h =
     elim (or_cases (eqb q j) (has_place qs j) h) [

@@ -1,10 +1,14 @@
 pub mod SparseLemmas
 pub mod EntrySums
 pub mod MergeLemmas
+pub mod EntrySumLemmas
+pub mod EntryTimesLemmas
 pub mod RowSums
 pub mod RowChangeLemmas
 pub mod RowTableLemmas
+pub mod RunRowLemmas
 pub mod SparseRowLemmas
+pub mod SparseRowChangeLemmas
 pub mod ShapeLemmas
 pub mod FaultLemmas
 pub mod FreeLemmas
@@ -12,3 +16,4 @@ pub mod RowCheckLemmas
 pub mod KernelLemmas
 pub mod Spanning
 pub mod KernelSpans
+pub mod GatherLemmas

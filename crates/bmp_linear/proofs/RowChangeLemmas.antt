@@ -1,10 +1,10 @@
--- Numbers below p stay so as rows are pushed.
-use Rattle.std.proofs.Common.{◌≡◌, ℕ, ◌+◌, ◌<◌, List, sym, subst, inl, inr, arith}
+-- Numbers below p stay so as rows are pushed and changed.
+use Rattle.std.proofs.Common.{◌≡◌, ℕ, ◌+◌, ◌*◌, ◌%◌, ◌<◌, List, sym, subst, inl, inr, arith, mod-lt}
 use Rattle.std.proofs.lemmas.Bool.{cases_eq}
 use Rattle.bmp_math.specs.Matrices.{Matrix, NumbersBelow}
 use Rattle.bmp_linear.specs.declared.vector.Entry.{Entry}
 use Rattle.bmp_linear.specs.SparseVectors.{ValuesBelow, number_at}
-use Rattle.bmp_linear.specs.RowChanges.{IsRowPushed}
+use Rattle.bmp_linear.specs.RowChanges.{IsRowPushed, IsRowAdded, IsRowMultiplied, AreRowsExchanged}
 use Rattle.bmp_linear.proofs.SparseLemmas.{number_at-below}
 
 pub numbers_below-none : (p : ℕ) (a : Matrix) → a.rows ≡ 0 → NumbersBelow p a
@@ -18,4 +18,34 @@ numbers_below-pushed p old new v some numbers values pushed i j l m =
     elim (cases_eq i old.rows) [
       | inl last ↦ subst (λ r. new.entry r j < p) (sym last) (subst (λ n. n < p) (sym (pushed.pushed j column)) (number_at-below v p j some values))
       | inr other ↦ let before : i < old.rows = omega arith in subst (λ n. n < p) (sym (pushed.others i j before column)) (numbers i j before column)
+    ]
+
+pub numbers_below-added : (p : ℕ) (old new : Matrix) (into from c : ℕ) → 0 < p → NumbersBelow p old → IsRowAdded p old new into from c → NumbersBelow p new
+numbers_below-added p old new into from c some numbers added i j l m =
+    let row : i < old.rows = omega (arith, added.rows) in
+    let column : j < old.cols = omega (arith, added.cols) in
+    elim (cases_eq i into) [
+      | inl here ↦ rw (here, added.added j column) (mod-lt (old.entry into j + c * old.entry from j) some)
+      | inr other ↦ rw (added.others i j row column other) (numbers i j row column)
+    ]
+
+pub numbers_below-multiplied : (p : ℕ) (old new : Matrix) (r c : ℕ) → 0 < p → NumbersBelow p old → IsRowMultiplied p old new r c → NumbersBelow p new
+numbers_below-multiplied p old new r c some numbers multiplied i j l m =
+    let row : i < old.rows = omega (arith, multiplied.rows) in
+    let column : j < old.cols = omega (arith, multiplied.cols) in
+    elim (cases_eq i r) [
+      | inl here ↦ rw (here, multiplied.multiplied j column) (mod-lt (c * old.entry r j) some)
+      | inr other ↦ rw (multiplied.others i j row column other) (numbers i j row column)
+    ]
+
+pub numbers_below-exchanged : (p : ℕ) (old new : Matrix) (r s : ℕ) → r < old.rows → s < old.rows → NumbersBelow p old → AreRowsExchanged old new r s → NumbersBelow p new
+numbers_below-exchanged p old new r s first second numbers exchanged i j l m =
+    let row : i < old.rows = omega (arith, exchanged.rows) in
+    let column : j < old.cols = omega (arith, exchanged.cols) in
+    elim (cases_eq i r) [
+      | inl at ↦ rw (at, exchanged.at_first j column) (numbers s j second column)
+      | inr other ↦ elim (cases_eq i s) [
+        | inl at ↦ rw (at, exchanged.at_second j column) (numbers r j first column)
+        | inr apart ↦ rw (exchanged.others i j row column other apart) (numbers i j row column)
+      ]
     ]

@@ -1,6 +1,8 @@
 pub mod SparseVectors
 pub mod RowTables
 pub mod RowChanges
+pub mod Runs
+pub mod EntryChanges
 pub mod FreePlaces
 pub mod Faults
 pub mod Evidence

@@ -1,10 +1,13 @@
--- Rows that became longer, and rows of numbers that rows are added to.
+-- Rows that became longer or were changed, and rows of numbers that rows are added to.
 --   IsRowPushed old new row              the matrix has one row more
+--   IsRowAdded p old new into from c     c times the row `from` was added to the row `into`
+--   IsRowMultiplied p old new row c      the row was multiplied by c
+--   AreRowsExchanged old new i j         the rows i and j changed places
 --   HoldsNumbers p n list                the first n of the list are numbers below p
 --   IsRowAddedTo p a i c old new         c times row i of a was added to a row of numbers
 --   AddsEntries p c v old new            c times a vector was added to a row of numbers
 --   IsCombined p a c numbers             the first of the numbers are the combination c of the rows of a
-use Rattle.std.specs.Prelude.{◌≡◌, ℕ, ◌+◌, ◌*◌, ◌%◌, ◌<◌, ◌≤◌, List, length, slice_index}
+use Rattle.std.specs.Prelude.{◌≡◌, ◌≢◌, ℕ, ◌+◌, ◌*◌, ◌%◌, ◌<◌, ◌≤◌, List, length, slice_index}
 use Rattle.bmp_math.specs.Matrices.{Matrix, combination}
 use Rattle.bmp_linear.specs.declared.vector.Entry.{Entry}
 use Rattle.bmp_linear.specs.SparseVectors.{number_at}
@@ -15,6 +18,28 @@ pub record IsRowPushed (old new : Matrix) (row : ℕ → ℕ) : Type 0 where
   pub cols : new.cols ≡ old.cols
   pub pushed : (j : ℕ) → j < old.cols → new.entry old.rows j ≡ row j
   pub others : (i j : ℕ) → i < old.rows → j < old.cols → new.entry i j ≡ old.entry i j
+
+-- c times the row `from` was added to the row `into`, modulo p, and nothing else changed
+pub record IsRowAdded (p : ℕ) (old new : Matrix) (into from c : ℕ) : Type 0 where
+  pub rows : new.rows ≡ old.rows
+  pub cols : new.cols ≡ old.cols
+  pub added : (j : ℕ) → j < old.cols → new.entry into j ≡ (old.entry into j + c * old.entry from j) % p
+  pub others : (i j : ℕ) → i < old.rows → j < old.cols → i ≢ into → new.entry i j ≡ old.entry i j
+
+-- the row was multiplied by c, modulo p, and nothing else changed
+pub record IsRowMultiplied (p : ℕ) (old new : Matrix) (row c : ℕ) : Type 0 where
+  pub rows : new.rows ≡ old.rows
+  pub cols : new.cols ≡ old.cols
+  pub multiplied : (j : ℕ) → j < old.cols → new.entry row j ≡ (c * old.entry row j) % p
+  pub others : (i j : ℕ) → i < old.rows → j < old.cols → i ≢ row → new.entry i j ≡ old.entry i j
+
+-- two rows, maybe the same, changed places, and nothing else changed
+pub record AreRowsExchanged (old new : Matrix) (first second : ℕ) : Type 0 where
+  pub rows : new.rows ≡ old.rows
+  pub cols : new.cols ≡ old.cols
+  pub at_first : (j : ℕ) → j < old.cols → new.entry first j ≡ old.entry second j
+  pub at_second : (j : ℕ) → j < old.cols → new.entry second j ≡ old.entry first j
+  pub others : (i j : ℕ) → i < old.rows → j < old.cols → i ≢ first → i ≢ second → new.entry i j ≡ old.entry i j
 
 -- the first n of the list are numbers below p
 pub record HoldsNumbers (p n : ℕ) (list : List ℕ) : Type 0 where

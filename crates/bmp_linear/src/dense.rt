@@ -4,6 +4,7 @@ ghost use Rattle.bmp_math.specs.Matrices.{Matrix};
 ghost use Rattle.bmp_linear.specs.RowTables.{NumberTable, matrix_of_numbers};
 
 use crate::rows::{RowSpace, Rows};
+use crate::runs::{add_run, scale_run, swap_runs};
 use crate::vector::Vector;
 use bmp_field::Field;
 use std::alloc::{AllocError, Global};
@@ -58,6 +59,13 @@ impl<F: Field> Rows<F> for DenseRows<F> {
     fn at(&self, f: &F, i: u32, j: u32) -> F::E {
         f.from_num(u32::from(self.numbers[i as usize * self.cols as usize + j as usize]))
     }
+
+    fn add_row_to(&self, f: &F, i: u32, c: F::E, sums: &mut [u8]) {
+        let cols = self.cols as usize;
+        let start = i as usize * cols;
+        let row = &self.numbers.as_slice()[start..start + cols];
+        f.add_multiple(c, row, &mut sums[..cols]);
+    }
 }
 
 impl<F: Field> RowSpace<F> for DenseRows<F> {
@@ -73,5 +81,47 @@ impl<F: Field> RowSpace<F> for DenseRows<F> {
         }
         self.rows += 1;
         Ok(())
+    }
+
+    fn add_row(&mut self, f: &F, into: u32, from: u32, c: F::E) -> Result<(), AllocError> {
+        let cols = self.cols as usize;
+        let numbers = self.numbers.as_mut_slice();
+        add_run(
+            f,
+            c,
+            numbers,
+            into as usize * cols,
+            from as usize * cols,
+            cols,
+        );
+        Ok(())
+    }
+
+    fn scale_row(&mut self, f: &F, i: u32, c: F::E) {
+        let cols = self.cols as usize;
+        let numbers = self.numbers.as_mut_slice();
+        scale_run(f, c, numbers, i as usize * cols, cols);
+    }
+
+    fn swap_rows(&mut self, i: u32, j: u32) {
+        if i == j {
+            return;
+        }
+        let cols = self.cols as usize;
+        let numbers = self.numbers.as_mut_slice();
+        swap_runs(numbers, i as usize * cols, j as usize * cols, cols);
+    }
+
+    fn empty(&self, cols: u32) -> DenseRows<F> {
+        DenseRows::new(*self.numbers.allocator(), cols)
+    }
+
+    fn copy(&self) -> Result<DenseRows<F>, AllocError> {
+        Ok(DenseRows {
+            rows: self.rows,
+            cols: self.cols,
+            numbers: self.numbers.clone()?,
+            of: PhantomData,
+        })
     }
 }

@@ -1,8 +1,8 @@
 //! Rows of numbers of a field.
-ghost use Rattle.std.specs.Prelude.{◌≡◌, ℕ, ◌%◌, ◌<◌, ◌≤◌, OnOk, OnErr};
+ghost use Rattle.std.specs.Prelude.{◌≡◌, ◌≢◌, ℕ, ◌%◌, ◌<◌, ◌≤◌, OnOk, OnErr, IfOk};
 ghost use Rattle.bmp_math.specs.Matrices.{Matrix, NumbersBelow, image};
 ghost use Rattle.bmp_linear.specs.SparseVectors.{FitsBelow, ValuesBelow, IsSpread, number_at};
-ghost use Rattle.bmp_linear.specs.RowChanges.{IsRowPushed, HoldsNumbers, IsRowAddedTo};
+ghost use Rattle.bmp_linear.specs.RowChanges.{IsRowPushed, IsRowAdded, IsRowMultiplied, AreRowsExchanged, HoldsNumbers, IsRowAddedTo};
 
 use crate::vector::Vector;
 use bmp_field::Field;
@@ -79,7 +79,7 @@ pub trait Rows<F: Field> {
     }
 }
 
-/// Rows in memory, which can be made longer.
+/// Rows in memory, which can be changed.
 pub trait RowSpace<F: Field>: Rows<F> + Drop {
     /// Appends a row. Wants memory also where there are 2^32 - 1 rows.
     fn push_row(&mut self, f: &F, row: &Vector) -> Result<(), AllocError>
@@ -87,4 +87,38 @@ pub trait RowSpace<F: Field>: Rows<F> + Drop {
         requires values { ValuesBelow row.now (F.size f.now) }
         ensures ok { OnOk result (IsRowPushed (Self.matrix self.old) (Self.matrix self.new) (number_at row.now)) }
         ensures err { OnErr result (self.new ≡ self.old) };
+
+    /// Adds `c` times the row `from` to the row `into`.
+    fn add_row(&mut self, f: &F, into: u32, from: u32, c: F::E) -> Result<(), AllocError>
+        requires numbers { NumbersBelow (F.size f.now) (Self.matrix self.old) }
+        requires into { into < (Self.matrix self.old).rows }
+        requires from { from < (Self.matrix self.old).rows }
+        requires apart { into ≢ from }
+        requires factor { F.is_value f.now c }
+        ensures ok { OnOk result
+            (IsRowAdded (F.size f.now) (Self.matrix self.old) (Self.matrix self.new) into from (F.num f.now c)) }
+        ensures err { OnErr result (self.new ≡ self.old) };
+
+    /// Multiplies the row `i` by `c`, which isn't zero.
+    fn scale_row(&mut self, f: &F, i: u32, c: F::E)
+        requires numbers { NumbersBelow (F.size f.now) (Self.matrix self.old) }
+        requires row { i < (Self.matrix self.old).rows }
+        requires factor { F.is_value f.now c }
+        requires not_zero { F.num f.now c ≢ 0 }
+        ensures { IsRowMultiplied (F.size f.now) (Self.matrix self.old) (Self.matrix self.new) i (F.num f.now c) };
+
+    /// Exchanges two rows.
+    fn swap_rows(&mut self, i: u32, j: u32)
+        requires first { i < (Self.matrix self.old).rows }
+        requires second { j < (Self.matrix self.old).rows }
+        ensures { AreRowsExchanged (Self.matrix self.old) (Self.matrix self.new) i j };
+
+    /// No rows, of `cols` columns, kept in the same way. Takes no memory.
+    fn empty(&self, cols: u32) -> Self
+        ensures rows { (Self.matrix result).rows ≡ 0 }
+        ensures cols { (Self.matrix result).cols ≡ cols };
+
+    /// Equal rows.
+    fn copy(&self) -> Result<Self, AllocError>
+        ensures { IfOk result (λ copy. copy ≡ self.now) };
 }

@@ -1,5 +1,6 @@
-//! The evidence of the one row (1, 2) modulo 3, accepted and altered, over each kind of rows.
-ghost use Rattle.std.specs.Prelude.{◌≡◌, ◌<◌, IfOk};
+//! The evidence of the one row (1, 2) modulo 3, accepted and altered, and changes of the rows (1, 2) and
+//! (2, 2), over each kind of rows.
+ghost use Rattle.std.specs.Prelude.{◌≡◌, ◌<◌, IfOk, OnOk};
 ghost use Rattle.bmp_math.specs.Matrices.{Matrix, NumbersBelow};
 ghost use Rattle.bmp_field.specs.PrimeFields.{size_of};
 ghost use Rattle.bmp_linear.specs.SparseVectors.{FitsBelow, ValuesBelow};
@@ -206,6 +207,110 @@ fn judge_pushed<A: RowSpace<PrimeField>>(
     judge_evidence(rt, alloc, f, &a)?;
     judge_combinations(rt, alloc, f, &a)?;
     judge_forms(rt, alloc, f, &a)
+}
+
+/// The two numbers of a row.
+fn numbers_of<A: Rows<PrimeField>>(rt: &impl Abort, f: &PrimeField, a: &A, i: u32) -> [u32; 2]
+    requires { NumbersBelow (size_of f.now) (A.matrix a.now) }
+{
+    assert!(rt; i < a.rows());
+    assert!(rt; a.cols() == 2);
+    [f.num(a.at(f, i, 0)), f.num(a.at(f, i, 1))]
+}
+
+/// Adds twice the row `from` to the row `into`.
+fn add_twice<A: RowSpace<PrimeField>>(
+    rt: &impl Abort,
+    f: &PrimeField,
+    a: &mut A,
+    into: u32,
+    from: u32,
+) -> Result<(), AllocError>
+    requires { NumbersBelow (size_of f.now) (A.matrix a.old) }
+    ensures { OnOk result (NumbersBelow (size_of f.now) (A.matrix a.new)) }
+{
+    assert!(rt; into < a.rows());
+    assert!(rt; from < a.rows());
+    assert!(rt; into != from);
+    let two = f.add(f.one(), f.one());
+    a.add_row(f, into, from, two)?;
+    Ok(())
+}
+
+/// Doubles the row `i`, where 2 isn't 0.
+fn double<A: RowSpace<PrimeField>>(rt: &impl Abort, f: &PrimeField, a: &mut A, i: u32)
+    requires { NumbersBelow (size_of f.now) (A.matrix a.old) }
+    ensures { NumbersBelow (size_of f.now) (A.matrix a.new) }
+{
+    assert!(rt; i < a.rows());
+    let two = f.add(f.one(), f.one());
+    assert!(rt; f.num(two) != 0);
+    a.scale_row(f, i, two);
+}
+
+/// Exchanges two rows.
+fn swap<A: RowSpace<PrimeField>>(rt: &impl Abort, f: &PrimeField, a: &mut A, i: u32, j: u32)
+    requires { NumbersBelow (size_of f.now) (A.matrix a.old) }
+    ensures { NumbersBelow (size_of f.now) (A.matrix a.new) }
+{
+    let _ = f;
+    assert!(rt; i < a.rows());
+    assert!(rt; j < a.rows());
+    a.swap_rows(i, j);
+}
+
+/// The rows (1, 2) and (2, 2): the first and twice the second are (2, 0), twice the second is (1, 1).
+fn judge_changes<A: RowSpace<PrimeField>>(
+    rt: &impl Abort,
+    alloc: Global,
+    f: &PrimeField,
+    empty: A,
+) -> Result<(), Fail>
+    requires { (A.matrix empty).rows ≡ 0 }
+{
+    let first = pair(alloc, 1, 2)?;
+    let second = pair(alloc, 2, 2)?;
+    assert!(rt; first.fits(empty.cols()));
+    assert!(rt; first.is_below(f.size()));
+    let one = with_row(f, empty, &first)?;
+    assert!(rt; second.fits(one.cols()));
+    assert!(rt; second.is_below(f.size()));
+    let mut a = with_row(f, one, &second)?;
+    let before = a.copy()?;
+    add_twice(rt, f, &mut a, 0, 1)?;
+    assert_eq!(rt; numbers_of(rt, f, &a, 0), [2, 0]);
+    double(rt, f, &mut a, 1);
+    assert_eq!(rt; numbers_of(rt, f, &a, 1), [1, 1]);
+    swap(rt, f, &mut a, 0, 1);
+    assert_eq!(rt; numbers_of(rt, f, &a, 0), [1, 1]);
+    assert_eq!(rt; numbers_of(rt, f, &a, 1), [2, 0]);
+    swap(rt, f, &mut a, 1, 1);
+    assert_eq!(rt; numbers_of(rt, f, &a, 1), [2, 0]);
+    assert_eq!(rt; numbers_of(rt, f, &before, 0), [1, 2]);
+    assert_eq!(rt; numbers_of(rt, f, &before, 1), [2, 2]);
+    Ok(())
+}
+
+#[test]
+fn rows_are_changed(rt: HostRuntime) -> Result<(), Fail> {
+    let alloc = rt.alloc();
+    let f = PrimeField::new(3).map_err(|_| "3")?;
+    judge_changes(&rt, alloc, &f, DenseRows::new(alloc, 2))?;
+    judge_changes(&rt, alloc, &f, SparseRows::new(alloc, 2))
+}
+
+#[test]
+fn sparse_rows_show_their_entries(rt: HostRuntime) -> Result<(), Fail> {
+    let alloc = rt.alloc();
+    let f = PrimeField::new(3).map_err(|_| "3")?;
+    let row = pair(alloc, 0, 2)?;
+    let empty = SparseRows::<PrimeField>::new(alloc, 2);
+    assert!(rt; row.fits(empty.cols()));
+    assert!(rt; row.is_below(f.size()));
+    let a = with_row(&f, empty, &row)?;
+    assert!(rt; a.rows() == 1);
+    assert_eq!(rt; a.row(0), [Entry { place: 1, value: 2 }].as_slice());
+    Ok(())
 }
 
 #[test]

@@ -1,5 +1,5 @@
 //! A vector of numbers, kept as those that aren't 0.
-ghost use Rattle.std.specs.Prelude.{◌≡◌, ◌≢◌, ◌<◌, ◌↔◌, IsTrue, ℕ, All, [], ◌∷◌, ◌++◌, length, slice_get, slice_index, Some, EachIndex, OnOk, OnErr, IfOk};
+ghost use Rattle.std.specs.Prelude.{◌≡◌, ◌≢◌, ◌<◌, ◌≤◌, ◌^◌, ◌↔◌, IsTrue, ℕ, All, [], ◌∷◌, ◌++◌, length, slice_get, slice_index, Some, EachIndex, OnOk, OnErr, IfOk};
 ghost use Rattle.bmp_linear.specs.SparseVectors.{IsSparse, FitsBelow, ValuesBelow, number_at};
 
 use crate::scratch::clear;
@@ -50,6 +50,26 @@ impl Vector {
         })
     }
 
+    /// The vector of the numbers, each at its place.
+    pub fn of_numbers(alloc: Global, numbers: &[u8]) -> Result<Vector, AllocError>
+        requires { length numbers.now ≤ 2 ^ 32 }
+        ensures sparse { IfOk result IsSparse }
+        ensures fits { IfOk result (λ vector. FitsBelow vector (length numbers.now)) }
+        ensures numbers { IfOk result
+            (λ vector. (j : ℕ) → j < length numbers.now → number_at vector j ≡ slice_index numbers.now j) }
+    {
+        let mut vector = Vector::new(alloc);
+        for (place, value) in numbers.iter().enumerate() {
+            if *value != 0 {
+                vector.push(Entry {
+                    place: place as u32,
+                    value: *value,
+                })?;
+            }
+        }
+        Ok(vector)
+    }
+
     /// How many entries there are.
     pub fn len(&self) -> u32
         ensures { result ≡ length self.now }
@@ -78,6 +98,13 @@ impl Vector {
         }
         self.entries.push(item)?;
         Ok(())
+    }
+
+    /// Takes all entries away, and keeps the room for them.
+    pub fn clear(&mut self)
+        ensures { self.new ≡ [] }
+    {
+        self.entries.clear();
     }
 
     /// An equal vector.

@@ -6,3 +6,5 @@ pub mod SpanLemmas
 pub mod IntegerLemmas
 pub mod IntegerSumLemmas
 pub mod ListLemmas
+pub mod BlockLemmas
+pub mod OneLists

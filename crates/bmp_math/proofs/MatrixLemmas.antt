@@ -1,10 +1,13 @@
--- Combinations of rows, and what rows say of combinations.
-use Rattle.std.proofs.Common.{◌≡◌, ℕ, ◌+◌, ◌*◌, ◌%◌, arith, refl, sym, ap, ◌∙◌}
+-- Combinations of rows, what rows say of combinations, and the matrix of a linear map.
+use Rattle.std.proofs.Common.{◌≡◌, ℕ, ◌+◌, ◌*◌, ◌%◌, ◌<◌, eqb, arith, refl, sym, ap, subst, ◌∙◌, eq-eqb, ne_eqb}
+use Rattle.std.proofs.lemmas.Bool.{cond-true, cond-false}
 use Rattle.bmp_math.specs.Sums.{sum_below}
-use Rattle.bmp_math.specs.Vectors.{dot, plus, scaled, IsLinear}
+use Rattle.bmp_math.specs.Congruences.{SameMod}
+use Rattle.bmp_math.specs.Vectors.{SameVector, unit, dot, plus, scaled, IsLinear}
 use Rattle.bmp_math.specs.Matrices.{Matrix, combination, image}
-use Rattle.bmp_math.proofs.SumLemmas.{sum_below-add, sum_below-mul, sum_below-swap, sum_below_same, sum_same_mod}
+use Rattle.bmp_math.proofs.SumLemmas.{sum_below-add, sum_below-mul, sum_below-swap, sum_below_same, sum_same_mod, sum_below_only}
 use Rattle.bmp_math.proofs.CongruenceLemmas.{same_mul}
+use Rattle.bmp_math.proofs.VectorLemmas.{agree_on_all}
 
 module _ (a : Matrix) where
   -- what the rows say of a sum
@@ -54,3 +57,22 @@ image_is_linear p a = record {
   sums = λ u v i l. ap (λ z. z % p) (image-plus a u v i);
   multiples = λ c v i l. ap (λ z. z % p) (image-scaled a c v i);
 }
+
+-- the rows say of a unit what stands in its column
+pub image-unit : (a : Matrix) (j i : ℕ) → j < a.cols → image a (unit j) i ≡ a.entry i j
+image-unit a j i below =
+    sum_below_only (λ k. unit j k * a.entry i k) a.cols j below (λ k inside other. ap (λ z. z * a.entry i k) (cond-false {A = ℕ} (eqb j k) 1 0 (ne_eqb j k (λ e. other (sym e)))) ∙ nothing (a.entry i k))
+    ∙ ap (λ z. z * a.entry i j) (cond-true {A = ℕ} (eqb j j) 1 0 (eq-eqb j j refl))
+    ∙ once (a.entry i j)
+  where
+    nothing : (x : ℕ) → 0 * x ≡ 0
+    nothing x = omega arith
+
+    once : (x : ℕ) → 1 * x ≡ x
+    once x = omega arith
+
+-- a matrix with the images of the units as its columns is that of the map
+pub matrix_of_linear : (p n m : ℕ) (a : Matrix) (map : (ℕ → ℕ) → ℕ → ℕ) → IsLinear p n m map → a.rows ≡ m → a.cols ≡ n → ((i j : ℕ) → i < m → j < n → SameMod p (a.entry i j) (map (unit j) i)) → (v : ℕ → ℕ) → SameVector p m (image a v) (map v)
+matrix_of_linear p n m a map linear rows cols entries =
+    agree_on_all p n m (image a) map (subst (λ z. IsLinear p z m (image a)) cols (subst (λ z. IsLinear p a.cols z (image a)) rows (image_is_linear p a))) linear
+    (λ j below i inside. ap (λ z. z % p) (image-unit a j i (subst (λ z. j < z) (sym cols) below)) ∙ entries i j inside below)

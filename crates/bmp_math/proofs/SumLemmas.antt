@@ -71,6 +71,13 @@ module _ (p : ℕ) where
   pub sum_zero_mod : (f : ℕ → ℕ) (n : ℕ) → ((i : ℕ) → i < n → SameMod p (f i) 0) → SameMod p (sum_below f n) 0
   sum_zero_mod f n h = sum_same_mod f (λ i. 0) n h ∙ ap (λ x. x % p) (sum_below-zeros n)
 
+  -- what grows from 0 by the terms of a sum is the sum
+  pub sum_of_steps : (value f : ℕ → ℕ) (n : ℕ) → SameMod p (value 0) 0 → ((i : ℕ) → i < n → SameMod p (value (suc i)) (value i + f i)) → SameMod p (value n) (sum_below f n)
+  unfolding sum_below
+  sum_of_steps value f zero start step = start
+  sum_of_steps value f (suc n) start step =
+      step n (omega arith) ∙ same_add p (value n) (sum_below f n) (f n) (f n) (sum_of_steps value f n start (λ i l. step i (omega arith))) refl
+
   -- a sum whose terms are zero but for one
   pub sum_only_mod : (f : ℕ → ℕ) (n k : ℕ) → k < n → ((i : ℕ) → i < n → i ≢ k → SameMod p (f i) 0) → SameMod p (sum_below f n) (f k)
   unfolding sum_below

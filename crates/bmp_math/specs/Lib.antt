@@ -6,4 +6,5 @@ pub mod Spans
 pub mod Integers
 pub mod IntegerSums
 pub mod Lists
+pub mod Blocks
 pub mod Statements

@@ -1,0 +1,13 @@
+pub mod UnitLemmas
+pub mod Mixes
+pub mod TraceLemmas
+pub mod ColumnLemmas
+pub mod StepLemmas
+pub mod EndLemmas
+pub mod ExtensionLemmas
+pub mod RowVectorLemmas
+pub mod PlacedLemmas
+pub mod FreeVectorLemmas
+pub mod EvidenceLemmas
+pub mod SystemLemmas
+pub mod JoinedLemmas

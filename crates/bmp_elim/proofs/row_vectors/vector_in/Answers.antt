@@ -1,0 +1,13 @@
+use Rattle.std.proofs.Common.{◌≡◌, ◌<◌, ◌∙◌, length, refl, subst, arith}
+use Rattle.bmp_linear.specs.SparseVectors.{FitsBelow, number_at}
+use Rattle.bmp_elim.proofs.RowVectorLemmas.{row_vector_made}
+use Rattle.bmp_elim.proofs.row_vectors.vector_in.Goals as goal
+
+pub returns : goal.returns
+returns g c =
+    let all : length c.args.numbers.now ≡ (g.A.Rows.matrix c.args.a.now).cols = c.requires.room in
+    let sums : length c.add_row_to.new.sums ≡ (g.A.Rows.matrix c.args.a.now).cols = c.add_row_to.auto.sums ∙ c.fill.auto.self ∙ all in
+    row_vector_made (g.F.Field.size c.args.f.now) (g.A.Rows.matrix c.args.a.now) c.args.row (g.F.Field.num c.args.f.now c.one.result) c.fill.new.self c.add_row_to.new.sums c.in_ok-of_numbers.field-0 c.requires.numbers c.requires.row c.one.ensures.number
+    (λ j l. c.fill.ensures.clones j 0 (rw all l) refl) c.add_row_to.ensures c.in_ok-of_numbers.ensures.sparse
+    (subst (λ n. FitsBelow c.in_ok-of_numbers.field-0 n) sums c.in_ok-of_numbers.ensures.fits)
+    (λ j l. c.in_ok-of_numbers.ensures.numbers j (rw sums l))

@@ -1,0 +1,9 @@
+pub mod Echelons
+pub mod Traces
+pub mod Systems
+pub mod Extensions
+pub mod Steps
+pub mod RowVectors
+pub mod FreeVectors
+pub mod Images
+pub mod Columns

@@ -1,0 +1,7 @@
+use Rattle.std.proofs.Common.{take}
+use Rattle.bmp_linear.specs.RowChanges.{AddsEntries}
+use Rattle.bmp_linear.proofs.entries.add_entries.Given as goal
+
+-- the entries so far are added
+abbrev pub invariant-loop-entry : goal.invariant-loop-entry
+invariant-loop-entry g l = AddsEntries (g.F.Field.size l.f) (g.F.Field.num l.f l.c) (take l.entry-index l.entries) l.fn.sums l.sums
