@@ -6,3 +6,5 @@ pub mod AddingLemmas
 pub mod StepLemmas
 pub mod ReflectionLemmas
 pub mod RootLemmas
+pub mod OneEdge
+pub mod OneGraph

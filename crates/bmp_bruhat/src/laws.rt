@@ -1,5 +1,5 @@
 //! The laws of Bruhat moment graphs, for every interval.
-ghost use Rattle.bmp_bruhat.specs.Laws.{EdgeIsUnique, LabelIsNotZero, ReflectionIsEdge};
+ghost use Rattle.bmp_bruhat.specs.Laws.{EdgeIsUnique, LabelIsNotZero, ReflectionIsEdge, GraphIsOne};
 
 /// Two vertices have at most one edge.
 pub fn edge_is_unique()
@@ -14,4 +14,9 @@ pub fn label_is_not_zero()
 /// Where a reflection leads from a vertex to a vertex, an edge joins them.
 pub fn reflection_is_edge()
     ensures { ReflectionIsEdge }
+{}
+
+/// The vertices of an interval have one graph: two root systems of one Cartan matrix give the same.
+pub fn graph_is_one()
+    ensures { GraphIsOne }
 {}

@@ -14,3 +14,4 @@ pub mod Congruences
 pub mod ComponentLemmas
 pub mod ReducedActs
 pub mod TupleLemmas
+pub mod NormalLaws

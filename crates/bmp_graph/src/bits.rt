@@ -31,6 +31,18 @@ impl BitRows {
         })
     }
 
+    /// The same square again.
+    pub fn copy(&self, alloc: Global) -> Result<BitRows, AllocError>
+        ensures size { IfOk result (λ b. b.size ≡ self.now.size) }
+        ensures bits { IfOk result (λ b. (x y : ℕ) → HasBit b x y ↔ HasBit self.now x y) }
+    {
+        Ok(BitRows {
+            size: self.size,
+            words: self.words,
+            bits: Vec::from_slice(alloc, &self.bits)?,
+        })
+    }
+
     /// Whether the bit in this row and column is set.
     pub fn has(&self, row: usize, column: usize) -> bool
         requires row { row < self.now.size }

@@ -6,7 +6,7 @@ use crate::edge::Edge;
 use crate::fault::GraphFault;
 use crate::parts::Parts;
 use crate::tables::Endings;
-use std::alloc::Global;
+use std::alloc::{AllocError, Global};
 use std::marker::Model;
 
 /// A moment graph: vertices with lengths, and edges with linear forms as labels.
@@ -81,6 +81,21 @@ impl MomentGraph {
             starts,
             endings,
             above,
+        })
+    }
+
+    /// An equal graph.
+    pub fn copy(&self, alloc: Global) -> Result<MomentGraph, AllocError>
+        ensures { IfOk result (λ copy. copy ≡ self.now) }
+    {
+        Ok(MomentGraph {
+            rank: self.rank,
+            prime: self.prime,
+            lengths: Vec::from_slice(alloc, &self.lengths)?,
+            edges: Vec::from_slice(alloc, &self.edges)?,
+            starts: Vec::from_slice(alloc, &self.starts)?,
+            endings: self.endings.copy(alloc)?,
+            above: self.above.copy(alloc)?,
         })
     }
 

@@ -14,6 +14,19 @@ pub struct Endings {
     pub next: Vec<u32>,
 }
 
+impl Endings {
+    /// The same threads again.
+    pub fn copy(&self, alloc: Global) -> Result<Endings, AllocError>
+        ensures first { IfOk result (λ t. t.first.items ≡ self.now.first.items) }
+        ensures next { IfOk result (λ t. t.next.items ≡ self.now.next.items) }
+    {
+        Ok(Endings {
+            first: Vec::from_slice(alloc, &self.first)?,
+            next: Vec::from_slice(alloc, &self.next)?,
+        })
+    }
+}
+
 impl<'a> Parts<'a> {
     ghost use Rattle.bmp_graph.specs.Graph.{vertex_count, edge_count, lower, IsGraph, IsUpRange};
     ghost use Rattle.bmp_graph.specs.Parts.{graph_of};

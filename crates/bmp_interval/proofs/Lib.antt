@@ -6,3 +6,4 @@ pub mod OrderLemmas
 pub mod NumberLemmas
 pub mod IntervalLemmas
 pub mod FactLemmas
+pub mod OneInterval

@@ -11,9 +11,9 @@ pub mod free;
 pub mod graded;
 pub mod linear;
 pub mod map;
-mod normal;
+pub mod normal;
 pub mod projection;
-mod pure;
+pub mod pure;
 pub mod quotient;
 #[cfg(test)]
 mod tests;

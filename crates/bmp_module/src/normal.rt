@@ -79,7 +79,7 @@ fn multiply<F: Field>(
 }
 
 /// Makes a polynomial its normal form, and appends the coefficients of the monomials without the leading variable.
-pub(crate) fn push_normal<F: Field>(
+pub fn push_normal<F: Field>(
     f: &F,
     label: &Label,
     degree: u32,

@@ -30,11 +30,12 @@ pub(crate) fn without_variable(e: &[u8; 6], at: u8) -> [u8; 6]
 }
 
 /// How many monomials of a degree lack one of the `rank` variables.
-pub(crate) fn count_without(rank: u8, degree: u32) -> u32
+pub fn count_without(rank: u8, degree: u32) -> u32
     requires some { 0 < rank }
     requires rank { rank ≤ 6 }
     requires degree { degree ≤ 6 }
-    ensures { result ≡ count (rank - 1) degree }
+    ensures number { result ≡ count (rank - 1) degree }
+    ensures most { result ≤ 462 }
 {
     if rank > 1 {
         monomials::count(rank - 1, degree)

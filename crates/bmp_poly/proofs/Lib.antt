@@ -15,3 +15,4 @@ pub mod Turns
 pub mod ListingLemmas
 pub mod ProductLemmas
 pub mod LawLemmas
+pub mod OneLabel

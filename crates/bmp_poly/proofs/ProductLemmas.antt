@@ -89,7 +89,7 @@ unfolding count
 count-constant zero = refl
 count-constant (suc r) = omega (arith, sum_below-suc (count r) 0, sum_below-zero (count r), count-constant r)
 
-constant_is_one : (r : ℕ) (m : List ℕ) → r ≤ 6 → IsMonomial 6 r 0 m → m ≡ zeros 6
+pub constant_is_one : (r : ℕ) (m : List ℕ) → r ≤ 6 → IsMonomial 6 r 0 m → m ≡ zeros 6
 constant_is_one r m rank is = all_zeros m (λ k. elim (cases_lt k r) [ inl below ↦ omega (arith, exponent_le 6 r 0 k m rank below is) | inr past ↦ is.past k past ]) ∙ ap zeros is.long
 
 shift-one : (a : Form) (h : List ℕ) → length h ≡ 6 → shift (zeros 6) a h ≡ a h
@@ -152,7 +152,7 @@ times_sum u v z n =
     moved z u v = omega arith
 
 -- a shifted factor shifts the product
-product-shift : (r d e : ℕ) (f h : List ℕ) (b c : Form) → r ≤ 6 → IsMonomial 6 r d f → length h ≡ 6 → product 6 r (d + e) (shift f b) c h ≡ shift f (product 6 r e b c) h
+pub product-shift : (r d e : ℕ) (f h : List ℕ) (b c : Form) → r ≤ 6 → IsMonomial 6 r d f → length h ≡ 6 → product 6 r (d + e) (shift f b) c h ≡ shift f (product 6 r e b c) h
 unfolding product
 product-shift r d e f h b c rank is_f long =
     sum_below_same (λ x. shift f b (exponents 6 r (d + e) x) * shift (exponents 6 r (d + e) x) c h) (λ x. sum_below (λ j. b (exponents 6 r e j) * (unit_form r (exponents 6 r (d + e) x) (joined f (exponents 6 r e j)) * shift (exponents 6 r (d + e) x) c h)) (count r e)) (count r (d + e))

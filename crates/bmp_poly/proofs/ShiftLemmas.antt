@@ -13,7 +13,7 @@ length-less [] (y ∷ m) = refl
 length-less (x ∷ e) [] = refl
 length-less (x ∷ e) (y ∷ m) = ap suc (length-less e m)
 
-sum-less : (e m : List ℕ) → length e ≡ length m → contains e m ≡ true → sum (less e m) + sum m ≡ sum e
+pub sum-less : (e m : List ℕ) → length e ≡ length m → contains e m ≡ true → sum (less e m) + sum m ≡ sum e
 unfolding less contains
 sum-less [] [] l h = refl
 sum-less [] (y ∷ m) l h = absurd (let e : 0 ≡ suc (length m) = l in omega arith)

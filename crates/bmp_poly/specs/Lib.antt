@@ -10,3 +10,4 @@ pub mod Polynomials
 pub mod Coordinates
 pub mod Labels
 pub mod Statements
+pub mod LabelStatements

@@ -1,5 +1,5 @@
 //! Labels: linear forms that are not zero, in at most 6 variables over the numbers below a prime.
-ghost use Rattle.std.specs.Prelude.{◌≡◌, ℕ, suc, ◌+◌, ◌-◌, ◌<◌, ◌≤◌, ◌↔◌, slice_index, IsTrue, MatchOption, IfOk, IfErr};
+ghost use Rattle.std.specs.Prelude.{◌≡◌, ℕ, suc, ◌+◌, ◌-◌, ◌<◌, ◌≤◌, ◌↔◌, length, slice_index, IsTrue, MatchOption, IfOk, IfErr};
 ghost use Rattle.bmp_poly.specs.Coordinates.{Fits, EachFits, IsFirstMisfit, IsZero, IsFirstNonzero, IsLeading};
 
 /// A linear form that is not zero. It is homogeneous of degree 1.
@@ -10,6 +10,7 @@ pub struct Label {
     pub(crate) leading: u8,
     pub(crate) coords: [u8; 6],
     pub ghost leads: { IsLeading prime rank leading coords },
+    pub ghost six: { length coords ≡ 6 },
 }
 
 /// Why coordinates make no label.

@@ -1,5 +1,6 @@
 //! The main laws of the definitions, each the contract of a function without a body.
 ghost use Rattle.bmp_poly.specs.Statements.{ListingIsInOrder, NormalFormExistsOnce, EqualNormalForms, CongruenceIsKept, ConstantsAreNotDivided, ProductsCommute, ProductsAssociate, OneIsNeutral};
+ghost use Rattle.bmp_poly.specs.LabelStatements.{LabelsOfOneForm};
 
 /// The places of the monomials of a degree are the numbers below their count, each once, in the
 /// order of the listing: by the exponents from the first variable on, the larger first.
@@ -40,4 +41,9 @@ pub fn products_associate()
 /// The constant 1 times a polynomial is the polynomial.
 pub fn one_is_neutral()
     ensures { OneIsNeutral }
+{}
+
+/// A label is known by its prime, its rank and its coordinates.
+pub fn labels_of_one_form()
+    ensures { LabelsOfOneForm }
 {}

@@ -7,3 +7,4 @@ pub mod PlaceLemmas
 pub mod ReflectingLemmas
 pub mod ElementLemmas
 pub mod CallLemmas
+pub mod OneLength

@@ -3,3 +3,4 @@ pub mod Statements
 pub mod Matrices
 pub mod Elements
 pub mod ElementStatements
+pub mod LengthStatements

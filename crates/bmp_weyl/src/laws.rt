@@ -1,6 +1,7 @@
 //! The laws of words and length, each the contract of a function without a body.
 ghost use Rattle.bmp_weyl.specs.Statements.{LengthChangesByOne, LengthAtMostLetters, LengthZeroIsIdentity, DescentIsNegativeColumn, NoDescentIsIdentity, LengthOfInverse, Exchange, Deletion, ReducedSubsequence, SubsequenceIsShorter, PrefixIsReduced, ReducedAtMost36, ReflectionIsElement, ReflectionKnowsRoot, ReflectionChangesLength};
 ghost use Rattle.bmp_weyl.specs.ElementStatements.{ElementsOfEqualProducts, LengthOfElement};
+ghost use Rattle.bmp_weyl.specs.LengthStatements.{WordHasOneLength, ElementHasOneLength};
 
 /// A simple reflection on the right makes a product one longer or one shorter.
 pub fn length_changes_by_one()
@@ -85,4 +86,14 @@ pub fn elements_of_equal_products()
 /// An element makes as many positive roots negative as the product of its word.
 pub fn length_of_element()
     ensures { LengthOfElement }
+{}
+
+/// Each list of the positive roots of a Cartan matrix gives a word the same length.
+pub fn word_has_one_length()
+    ensures { WordHasOneLength }
+{}
+
+/// Each list of the positive roots of a Cartan matrix gives an element the same length.
+pub fn element_has_one_length()
+    ensures { ElementHasOneLength }
 {}

@@ -1,5 +1,5 @@
 //! A list of letters.
-ghost use Rattle.std.specs.Prelude.{◌≡◌, ◌<◌, ◌↔◌, ◌++◌, ◌∷◌, [], length, IsTrue, OnOk, OnErr, IfOk, slice_index, reverse};
+ghost use Rattle.std.specs.Prelude.{◌≡◌, ◌<◌, ◌↔◌, ◌++◌, ◌∷◌, ◌^◌, [], length, IsTrue, OnOk, OnErr, IfOk, slice_index, reverse};
 
 use std::alloc::{AllocError, Global};
 use std::marker::Model;
@@ -54,7 +54,8 @@ impl Letters {
 
     /// The letters.
     pub fn as_slice(&self) -> &[u8]
-        ensures { result.now ≡ self.now }
+        ensures letters { result.now ≡ self.now }
+        ensures few { length result.now < 2 ^ 32 }
     {
         self.letters.as_slice()
     }
