@@ -1,2 +1,5 @@
 mod ExampleLemmas
-mod LineCounts
+pub mod Soundness
+pub mod Counting
+pub mod TopCounts
+pub mod EvidenceLemmas

@@ -3,6 +3,9 @@
 #![tactic(auto)]
 
 pub mod examples;
+mod fault;
 mod kind;
+pub mod laws;
 
+pub use fault::CoverFault;
 pub use kind::Kind;

@@ -10,7 +10,7 @@ use Rattle.bmp_poly.specs.Products.{product}
 use Rattle.bmp_poly.proofs.ProductLemmas.{product-comm}
 use Rattle.bmp_poly.proofs.ProductLemmas.{product-one as one-product}
 
-contains_itself : (e : List ℕ) → contains e e ≡ true
+pub contains_itself : (e : List ℕ) → contains e e ≡ true
 unfolding contains
 contains_itself [] = refl
 contains_itself (x ∷ e) = and_from (leb x x) (contains e e) (le-leb x x (omega arith)) (contains_itself e)

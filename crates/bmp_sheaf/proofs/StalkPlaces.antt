@@ -35,7 +35,7 @@ removed_monomial w r s l e below wide is pure =
     }
 
 -- the polynomial at the generator has as many coefficients as there are monomials of its degree
-component_is_count : (r s d e : ℕ) → e + s ≡ d → component_count r d e ≡ count r s
+pub component_is_count : (r s d e : ℕ) → e + s ≡ d → component_count r d e ≡ count r s
 component_is_count r s d e h =
     let least : e ≤ d = omega arith in
     let whole : d - e ≡ s = omega arith in

@@ -1,4 +1,14 @@
 pub mod Elements
+pub mod Fields
+pub mod Units
 pub mod Sheaves
 pub mod Coordinates
+pub mod Numbers
+pub mod Written
+pub mod Tables
+pub mod NormalTables
+pub mod LabelTables
+pub mod EdgeMaps
+pub mod Terms
+pub mod EdgeModules
 pub mod Statements
