@@ -1,11 +1,10 @@
 -- The certificate's parts as pairs of a reader and a printed form.
-use Rattle.std.proofs.Common.{◌≡◌, ℕ, ◌+◌, ◌-◌, ◌==◌, ◌*◌, ◌^◌, ◌<◌, ◌≤◌, List, [], ◌∷◌, length, refl, ap, ap₂, arith, rules, codes}
+use Rattle.std.proofs.Common.{count_by, ◌≡◌, ℕ, ◌+◌, ◌-◌, ◌==◌, ◌*◌, ◌^◌, ◌<◌, ◌≤◌, List, [], ◌∷◌, length, refl, ap, ap₂, arith, rules, codes}
 use Rattle.std.proofs.lemmas.List.{append-nil}
 use Rattle.std.specs.Fmt.{decimal}
 use Rattle.bmp_cert.proofs.JobPairs.{job_lines_pair}
 use Rattle.bmp_cert.specs.BlockGrammar.{sizes, sizes_text, AreSizes, block, block_text, IsBlock}
 use Rattle.bmp_cert.specs.CertGrammar.{from_degree, step_up, step_down, degrees, degrees_text, AreDegrees, vertex_words, vertex_text, top, top_text, IsTop, part, part_text, IsPart, part_at, part_at_text, IsPartAt, parts, parts_text, AreParts, part_lines, part_lines_text, HavePartLines, cert, cert_text, IsWellFormed}
-use Rattle.bmp_cert.specs.Degrees.{count_at}
 use Rattle.bmp_cert.specs.VectorGrammar.{MOST, entry, entry_text, IsEntry, behind_place, vector, vector_text, IsVector, vectors, vectors_text, AreVectors, rising_places, rising_text, AreRising}
 use Rattle.bmp_cert.specs.declared.cert.Cert.{Cert}
 use Rattle.bmp_cert.specs.declared.cert.VertexPart.{VertexPart}
@@ -26,7 +25,7 @@ entry_pair most next small = pair_as IsPlainWord (entry most next) _ (entry_text
     (λ x e f h. ap (λ (t : Entry). t.value) h))
     (λ x e f h. ap (λ (t : Entry). t.place) h.1))
 
-vector_pair : (most : ℕ) → most < 2 ^ 63 → Pair IsPlainWord (vector most) vector_text (IsVector most)
+pub vector_pair : (most : ℕ) → most < 2 ^ 63 → Pair IsPlainWord (vector most) vector_text (IsVector most)
 vector_pair most small = counted_pair MOST (entry most) entry_text (IsEntry most) behind_place (omega arith) (λ next. entry_pair most next small) 0
 
 vectors_pair : (word : List ℕ) (most n : ℕ) → IsPlainWord word → most < 2 ^ 63 → Pair IsAny (vectors word most n) (vectors_text word) (AreVectors most n)
@@ -91,8 +90,8 @@ edges_is : (n : ℕ) → IsFrom 0 MOST n → n ≤ MOST
 edges_is n h = h.1
 
 module _ (most degree : ℕ) (small : most < 2 ^ 63) (low : degree < 2 ^ 62) where
-  blocks_pair : (es : List ℕ) → Pair IsAny (chain (block most (count_at es)) step_up (degree + 1) 0) (chain_text block_text step_up 0) (λ bs. (length bs ≡ degree + 1) × ChainFits (IsBlock most (count_at es)) step_up 0 bs)
-  blocks_pair es = chain_pair_while IsAny (block most (count_at es)) block_text (IsBlock most (count_at es)) step_up (λ k d. k + d < 2 ^ 63) (λ k d may. block_pair most (count_at es) small d (omega arith)) (λ k d b may h. omega arith) (degree + 1) 0 (omega arith)
+  blocks_pair : (es : List ℕ) → Pair IsAny (chain (block most (λ d. count_by (λ e. e == d) es)) step_up (degree + 1) 0) (chain_text block_text step_up 0) (λ bs. (length bs ≡ degree + 1) × ChainFits (IsBlock most (λ d. count_by (λ e. e == d) es)) step_up 0 bs)
+  blocks_pair es = chain_pair_while IsAny (block most (λ d. count_by (λ e. e == d) es)) block_text (IsBlock most (λ d. count_by (λ e. e == d) es)) step_up (λ k d. k + d < 2 ^ 63) (λ k d may. block_pair most (λ d. count_by (λ e. e == d) es) small d (omega arith)) (λ k d b may h. omega arith) (degree + 1) 0 (omega arith)
 
   part_pair : (x : ℕ) → x < 2 ^ 63 → Pair IsAny (part most degree x) (part_text x) (IsPart most degree x)
   unfolding part

@@ -1,10 +1,9 @@
 -- The list of all numbers of generators, and its members.
-use Rattle.std.proofs.Common.{◌≡◌, ℕ, zero, suc, ◌+◌, ◌*◌, ◌-◌, ◌<◌, ◌≤◌, List, [], ◌∷◌, length, get_or, inl, inr, refl, ap, ◌∙◌, arith}
+use Rattle.std.proofs.Common.{◌==◌, count_by, ◌≡◌, ℕ, zero, suc, ◌+◌, ◌*◌, ◌-◌, ◌<◌, ◌≤◌, List, [], ◌∷◌, length, get_or, inl, inr, refl, ap, ◌∙◌, arith}
 use Rattle.std.proofs.lemmas.Bool.{cases_lt}
 use Rattle.std.proofs.lemmas.List.{length-append, get_or_append_left, get_or-append_right}
 use Rattle.std.proofs.lemmas.Nat.{mul-le}
 use Rattle.bmp_cert.specs.declared.cert.Cert.{Cert}
-use Rattle.bmp_cert.specs.Degrees.{count_at}
 use Rattle.bmp_cert.specs.Counts.{RankTable, part_of, generator_count, IsRanksOf, counts_below, all_counts}
 
 pub place_below : (x v d g : ℕ) → x < v → d < g → x * g + d < v * g
@@ -15,7 +14,7 @@ place_below x v d g h k =
 
 pub length-counts_below : (degrees : List ℕ) (n : ℕ) → length (counts_below degrees n) ≡ n
 length-counts_below degrees zero = refl
-length-counts_below degrees (suc n) = omega (arith, length-append (counts_below degrees n) (count_at degrees n ∷ []), length-counts_below degrees n)
+length-counts_below degrees (suc n) = omega (arith, length-append (counts_below degrees n) (count_by (λ e. e == n) degrees ∷ []), length-counts_below degrees n)
 
 pub length-all_counts : (c : Cert) (n : ℕ) → length (all_counts c n) ≡ n * (c.job.degree + 1)
 length-all_counts c zero = grind arith
@@ -27,14 +26,14 @@ length-all_counts c (suc n) =
     let one : suc n * g ≡ n * g + g = grind arith in
     omega (arith, both, front, back, one)
 
-get-counts_below : (degrees : List ℕ) (n d : ℕ) → d < n → get_or (counts_below degrees n) d 0 ≡ count_at degrees d
+get-counts_below : (degrees : List ℕ) (n d : ℕ) → d < n → get_or (counts_below degrees n) d 0 ≡ count_by (λ e. e == d) degrees
 get-counts_below degrees zero d h = absurd (omega arith)
 get-counts_below degrees (suc n) d h = elim (cases_lt d n) [
   | inl lt ↦ (let front : d < length (counts_below degrees n) = omega (arith, length-counts_below degrees n) in
-      get_or_append_left (counts_below degrees n) (count_at degrees n ∷ []) 0 d front ∙ get-counts_below degrees n d lt)
+      get_or_append_left (counts_below degrees n) (count_by (λ e. e == n) degrees ∷ []) 0 d front ∙ get-counts_below degrees n d lt)
   | inr le ↦ (let none : d - n ≡ 0 = omega arith in let is : n ≡ d = omega arith in
-      get_or-append_right (counts_below degrees n) (count_at degrees n ∷ []) n d 0 (length-counts_below degrees n) le
-      ∙ (ap (λ (k : ℕ). get_or (count_at degrees n ∷ []) k 0) none ∙ ap (count_at degrees) is))
+      get_or-append_right (counts_below degrees n) (count_by (λ e. e == n) degrees ∷ []) n d 0 (length-counts_below degrees n) le
+      ∙ (ap (λ (k : ℕ). get_or (count_by (λ e. e == n) degrees ∷ []) k 0) none ∙ ap (λ (k : ℕ). count_by (λ e. e == k) degrees) is))
 ]
 
 get-all_counts : (c : Cert) (n x d : ℕ) → x < n → d ≤ c.job.degree → get_or (all_counts c n) (x * (c.job.degree + 1) + d) 0 ≡ generator_count c x d

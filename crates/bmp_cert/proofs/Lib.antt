@@ -4,6 +4,10 @@ pub mod JobPairs
 pub mod CertPairs
 pub mod JobPrinting
 pub mod VectorLemmas
+pub mod PartLemmas
 pub mod CountLemmas
 pub mod RuleLemmas
+pub mod SystemLemmas
+pub mod GraphLemmas
+pub mod FormedLemmas
 pub mod CertPrinting

@@ -5,7 +5,7 @@
 --   cert                       reads a whole certificate text
 --   cert_text c                the text of c
 --   IsWellFormed c             c has a text
-use Rattle.std.specs.Prelude.{◌≡◌, ◌≤◌, ◌*◌, ◌+◌, ◌-◌, ◌==◌, ℕ, List, [], ◌∷◌, ◌++◌, length, Result, codes, if◌then◌else◌}
+use Rattle.std.specs.Prelude.{count_by, ◌≡◌, ◌≤◌, ◌*◌, ◌+◌, ◌-◌, ◌==◌, ℕ, List, [], ◌∷◌, ◌++◌, length, Result, codes, if◌then◌else◌}
 use Rattle.std.specs.Fmt.{decimal}
 use Rattle.bmp_text.specs.declared.fault.TextFault.{TextFault}
 use Rattle.bmp_text.specs.Cursor.{Cursor, natural}
@@ -14,7 +14,6 @@ use Rattle.bmp_text.specs.Sequence.{◌>>=◌}
 use Rattle.bmp_text.specs.Printing.{Chosen, line_text, single_text, chain_text, counted_text, ChainFits, CountedFits}
 use Rattle.bmp_cert.specs.declared.cert.VertexPart.{VertexPart}
 use Rattle.bmp_cert.specs.declared.cert.Cert.{Cert}
-use Rattle.bmp_cert.specs.Degrees.{count_at}
 use Rattle.bmp_cert.specs.JobGrammar.{job_lines, job_lines_text, IsWellFormedJob}
 use Rattle.bmp_cert.specs.VectorGrammar.{MOST, vectors, vectors_text, AreVectors}
 use Rattle.bmp_cert.specs.BlockGrammar.{block, block_text, IsBlock}
@@ -70,7 +69,7 @@ part most degree x = do
   es ← line (codes "vertex") (vertex_words x degree)
   m ← single (codes "edges") 0 MOST
   lifts ← vectors (codes "lift") most (m * length es)
-  blocks ← chain (block most (count_at es)) step_up (degree + 1) 0
+  blocks ← chain (block most (λ d. count_by (λ e. e == d) es)) step_up (degree + 1) 0
   give (record { degrees = es; edges = m; lifts = lifts; blocks = blocks })
 
 abbrev pub part_text : ℕ → VertexPart → List ℕ
@@ -81,7 +80,7 @@ pub record IsPart (most degree x : ℕ) (v : VertexPart) : Type 0 where
   pub degrees : AreDegrees degree v.degrees
   pub edges : v.edges ≤ MOST
   pub lifts : AreVectors most (v.edges * length v.degrees) v.lifts
-  pub blocks : (length v.blocks ≡ degree + 1) × ChainFits (IsBlock most (count_at v.degrees)) step_up 0 v.blocks
+  pub blocks : (length v.blocks ≡ degree + 1) × ChainFits (IsBlock most (λ d. count_by (λ e. e == d) v.degrees)) step_up 0 v.blocks
 
 -- ---- all vertices
 

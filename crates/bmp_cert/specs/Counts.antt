@@ -5,10 +5,9 @@
 --   rank_in r x d            the number for the vertex x and the degree d
 --   IsRanksOf c r            r has the vertices, the degree bound and the numbers of c
 --   counts_below, all_counts the numbers of one vertex, and of the first vertices, one behind the other
-use Rattle.std.specs.Prelude.{◌≡◌, ◌<◌, ◌≤◌, ◌+◌, ◌*◌, ◌-◌, ◌++◌, ℕ, zero, suc, List, [], ◌∷◌, length, slice_index_or}
+use Rattle.std.specs.Prelude.{count_by, ◌==◌, ◌≡◌, ◌<◌, ◌≤◌, ◌+◌, ◌*◌, ◌-◌, ◌++◌, ℕ, zero, suc, List, [], ◌∷◌, length, slice_index_or}
 use Rattle.bmp_cert.specs.declared.cert.VertexPart.{VertexPart}
 use Rattle.bmp_cert.specs.declared.cert.Cert.{Cert}
-use Rattle.bmp_cert.specs.Degrees.{count_at}
 
 abbrev pub no_part : VertexPart
 no_part = record { degrees = []; edges = 0; lifts = []; blocks = [] }
@@ -17,7 +16,7 @@ abbrev pub part_of : Cert → ℕ → VertexPart
 part_of c x = slice_index_or c.vertices (length c.vertices - 1 - x) no_part
 
 abbrev pub generator_count : Cert → ℕ → ℕ → ℕ
-generator_count c x d = count_at (part_of c x).degrees d
+generator_count c x d = count_by (λ e. e == d) (part_of c x).degrees
 
 pub record RankTable : Type 0 where
   pub vertices : ℕ
@@ -36,7 +35,7 @@ pub record IsRanksOf (c : Cert) (r : RankTable) : Type 0 where
 
 abbrev pub counts_below : List ℕ → ℕ → List ℕ
 counts_below degrees zero = []
-counts_below degrees (suc d) = counts_below degrees d ++ count_at degrees d ∷ []
+counts_below degrees (suc d) = counts_below degrees d ++ count_by (λ e. e == d) degrees ∷ []
 
 abbrev pub all_counts : Cert → ℕ → List ℕ
 all_counts c zero = []

@@ -1,9 +1,10 @@
 pub mod Answers
-pub mod Degrees
 pub mod JobGrammar
 pub mod VectorGrammar
 pub mod BlockGrammar
 pub mod CertGrammar
 pub mod Counts
+pub mod JobGraphs
 pub mod JobRules
+pub mod JobViews
 pub mod NotBuilt

@@ -1,11 +1,11 @@
 //! The block of one degree, read.
-ghost use Rattle.std.specs.Prelude.{◌≡◌, ◌<◌, ◌≤◌, ◌^◌, ◌+◌, ◌*◌, codes};
+ghost use Rattle.std.specs.Prelude.{◌≡◌, ◌<◌, ◌≤◌, ◌^◌, ◌+◌, ◌*◌, ◌==◌, count_by, codes};
 ghost use Rattle.bmp_text.specs.Readers.{chain, line};
+ghost use Rattle.bmp_text.specs.LaterLines.{PassesLines};
 ghost use Rattle.bmp_cert.specs.Answers.{Gives};
 ghost use Rattle.bmp_cert.specs.VectorGrammar.{rising_places};
 ghost use Rattle.bmp_cert.specs.BlockGrammar.{sizes, block};
 ghost use Rattle.bmp_cert.specs.CertGrammar.{step_up};
-ghost use Rattle.bmp_cert.specs.Degrees.{count_at};
 
 use crate::vector::{GREATEST, places_of, vectors_of};
 use crate::{CertError, Degrees};
@@ -17,7 +17,8 @@ use std::alloc::Global;
 #[tactic(auto, unfolding(bmp_text::specs::Readers::line))]
 fn sizes_of(lines: &mut Lines, degree: u64) -> Result<(u64, u64), CertError>
     requires { degree < 2 ^ 63 }
-    ensures { Gives (λ n. n) lines.new result (line (codes "block") (sizes degree) lines.old) }
+    ensures gives { Gives (λ n. n) lines.new result (line (codes "block") (sizes degree) lines.old) }
+    ensures later { PassesLines lines.old lines.new }
 {
     let mut line = lines.next_line()?;
     line.keyword(b"block")?;
@@ -31,7 +32,8 @@ fn sizes_of(lines: &mut Lines, degree: u64) -> Result<(u64, u64), CertError>
 // The line of the pivots.
 #[tactic(auto, unfolding(bmp_text::specs::Readers::line))]
 fn pivots_of(alloc: Global, lines: &mut Lines, count: u64) -> Result<Places, CertError>
-    ensures { Gives (λ v. v) lines.new result (line (codes "pivots") (rising_places count) lines.old) }
+    ensures gives { Gives (λ v. v) lines.new result (line (codes "pivots") (rising_places count) lines.old) }
+    ensures later { PassesLines lines.old lines.new }
 {
     let mut line = lines.next_line()?;
     line.keyword(b"pivots")?;
@@ -50,7 +52,8 @@ fn block_of(
     degree: u64,
 ) -> Result<DegreeBlock, CertError>
     requires { degree < 2 ^ 63 }
-    ensures { Gives (λ b. b) lines.new result (block most (count_at degrees.now) degree lines.old) }
+    ensures gives { Gives (λ b. b) lines.new result (block most (λ d. count_by (λ e. e == d) degrees.now) degree lines.old) }
+    ensures later { PassesLines lines.old lines.new }
 {
     let count = u64::from(degrees.count(degree));
     let (size, tuples) = sizes_of(lines, degree)?;
@@ -83,8 +86,9 @@ pub(crate) fn blocks_of(
     count: u64,
 ) -> Result<Blocks, CertError>
     requires { count < 2 ^ 63 }
-    ensures { Gives (λ v. v) lines.new result
-        (chain (block most (count_at degrees.now)) step_up count 0 lines.old) }
+    ensures gives { Gives (λ v. v) lines.new result
+        (chain (block most (λ d. count_by (λ e. e == d) degrees.now)) step_up count 0 lines.old) }
+    ensures later { PassesLines lines.old lines.new }
 {
     let mut list = Blocks::new(alloc);
     'each: for degree in 0..count {

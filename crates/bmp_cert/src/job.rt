@@ -1,6 +1,9 @@
 //! A job.
+ghost use Rattle.std.specs.Prelude.{◌≡◌, IfOk};
+
 use crate::Entries;
 use bmp_weyl::Letters;
+use std::alloc::AllocError;
 
 /// What a certificate is about: the Cartan matrix of rank `rank`, row by row, the number of elements of the
 /// field, the word, whose letters count from 1, and the degree bound (a linear form has degree 1).
@@ -12,4 +15,19 @@ pub struct Job {
     pub prime: u8,
     pub word: Letters,
     pub degree: u8,
+}
+
+impl Job {
+    /// An equal job.
+    pub fn copy(&self) -> Result<Job, AllocError>
+        ensures { IfOk result (λ copy. copy ≡ self.now) }
+    {
+        Ok(Job {
+            rank: self.rank,
+            cartan: self.cartan.copy()?,
+            prime: self.prime,
+            word: self.word.copy()?,
+            degree: self.degree,
+        })
+    }
 }

@@ -2,6 +2,7 @@
 ghost use Rattle.std.specs.Prelude.{◌≡◌, ◌≤◌, pos, negsuc, codes, IfOk, Ok};
 ghost use Rattle.bmp_text.specs.Cursor.{number, natural};
 ghost use Rattle.bmp_text.specs.Readers.{nothing, line, single, whole};
+ghost use Rattle.bmp_text.specs.LaterLines.{IsLaterLine, PassesLines};
 ghost use Rattle.bmp_cert.specs.Answers.{Gives, Answers, Pushes};
 ghost use Rattle.bmp_cert.specs.JobGrammar.{entries, letter_list, letters, rows, job_lines, job, job_text, IsWellFormedJob};
 ghost use Rattle.bmp_cert.specs.declared.job.Job.{Job};
@@ -34,7 +35,8 @@ fn entries_of(alloc: Global, line: &mut Line, count: u64) -> Result<Vec<i64>, Ce
 // A row of the matrix.
 #[tactic(auto, unfolding(bmp_text::specs::Readers::line))]
 fn row_of(alloc: Global, lines: &mut Lines, rank: u8) -> Result<Vec<i64>, CertError>
-    ensures { Gives (λ v. v.items) lines.new result (line (codes "row") (entries rank) lines.old) }
+    ensures gives { Gives (λ v. v.items) lines.new result (line (codes "row") (entries rank) lines.old) }
+    ensures later { PassesLines lines.old lines.new }
 {
     let mut line = lines.next_line()?;
     line.keyword(b"row")?;
@@ -45,7 +47,8 @@ fn row_of(alloc: Global, lines: &mut Lines, rank: u8) -> Result<Vec<i64>, CertEr
 
 // All rows, in one list.
 fn rows_of(alloc: Global, lines: &mut Lines, rank: u8) -> Result<Entries, CertError>
-    ensures { Gives (λ v. v) lines.new result (rows rank lines.old) }
+    ensures gives { Gives (λ v. v) lines.new result (rows rank lines.old) }
+    ensures later { PassesLines lines.old lines.new }
 {
     let mut entries = Entries::new(alloc);
     'rows: for _ in 0..rank {
@@ -87,7 +90,8 @@ fn counted_letters(alloc: Global, line: &mut Line) -> Result<Letters, CertError>
 // The line of the word.
 #[tactic(auto, unfolding(bmp_text::specs::Readers::line))]
 fn word_of(alloc: Global, lines: &mut Lines) -> Result<Letters, CertError>
-    ensures { Gives (λ v. v) lines.new result (line (codes "word") letters lines.old) }
+    ensures gives { Gives (λ v. v) lines.new result (line (codes "word") letters lines.old) }
+    ensures later { PassesLines lines.old lines.new }
 {
     let mut line = lines.next_line()?;
     line.keyword(b"word")?;
@@ -101,6 +105,7 @@ fn word_of(alloc: Global, lines: &mut Lines) -> Result<Letters, CertError>
 pub(crate) fn single_of(lines: &mut Lines, word: &[u8], low: u8, high: u8) -> Result<u8, CertError>
     ensures gives { Gives (λ n. n) lines.new result (single word.now low high lines.old) }
     ensures within { IfOk result (λ n. (low ≤ n) × (n ≤ high)) }
+    ensures later { PassesLines lines.old lines.new }
 {
     let mut line = lines.next_line()?;
     line.keyword(word)?;
@@ -120,11 +125,12 @@ pub(crate) fn end_of(lines: &mut Lines) -> Result<(), CertError>
     Ok(())
 }
 
-/// Reads the job lines, or gives the first fault in reading order. After an error `lines` stands at the
-/// start of a line, or at the end of the text.
-#[tactic(auto, unfolding(crate::specs::JobGrammar::job_lines))]
+/// Reads the job lines, or gives the first fault in reading order. After an error `lines` stands where it stood, or
+/// behind a later line: at the start of a line, or at the end of the text.
+#[tactic(auto, unfolding(crate::specs::JobGrammar::job_lines), using(bmp_text::proofs::LaterLines::same_place))]
 pub fn read_job_lines(alloc: Global, lines: &mut Lines) -> Result<Job, CertError>
-    ensures { Gives (λ j. j) lines.new result (job_lines lines.old) }
+    ensures gives { Gives (λ j. j) lines.new result (job_lines lines.old) }
+    ensures later { IsLaterLine lines.old lines.new }
 {
     let rank = single_of(lines, b"rank", 0, 16)?;
     let cartan = rows_of(alloc, lines, rank)?;

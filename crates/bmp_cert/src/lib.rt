@@ -10,13 +10,17 @@
 mod block;
 mod built;
 mod cert;
+mod cert_formed;
 mod cert_print;
 mod fault;
 mod job;
+mod job_fault;
+mod job_formed;
 mod job_reader;
 pub mod laws;
 mod lists;
 mod part;
+mod prepared;
 mod print;
 mod ranks;
 mod rules;
@@ -24,15 +28,19 @@ mod vector;
 
 pub use built::is_not_built;
 pub use cert::{Cert, Parts, VertexPart, read_cert};
+pub use cert_formed::{parts_formed, well_formed};
 pub use cert_print::{print_cert, push_parts};
 pub use fault::CertError;
 pub use job::Job;
+pub use job_fault::{JobError, JobFault};
+pub use job_formed::well_formed_job;
 pub use job_reader::{read_job, read_job_lines};
 pub use lists::{Degrees, Entries};
 pub use part::read_parts;
+pub use prepared::{Accepted, Prepared};
 pub use print::{print_job, push_job_lines};
 pub use ranks::Ranks;
-pub use rules::{JobFault, check_rules};
+pub use rules::{accept_job, prepare_job};
 
 #[cfg(test)]
 mod tests;

@@ -1,6 +1,5 @@
 //! Lists of numbers: the entries of a Cartan matrix, and degrees of generators.
-ghost use Rattle.std.specs.Prelude.{◌≡◌, ◌<◌, ◌^◌, pos, [], ◌∷◌, ◌++◌, length, slice_index, slice_index_or, OnOk, OnErr, IfOk};
-ghost use Rattle.bmp_cert.specs.Degrees.{count_at};
+ghost use Rattle.std.specs.Prelude.{◌≡◌, ◌<◌, ◌^◌, pos, [], ◌∷◌, ◌++◌, ◌==◌, count_by, length, slice_index, slice_index_or, OnOk, OnErr, IfOk};
 
 use std::alloc::{AllocError, Global};
 use std::marker::Model;
@@ -177,7 +176,7 @@ impl Degrees {
 
     /// How many of the degrees are this one.
     pub fn count(&self, degree: u64) -> u32
-        ensures { result ≡ count_at self.now degree }
+        ensures { result ≡ count_by (λ e. e == degree) self.now }
     {
         let mut count: u32 = 0;
         let degrees = self.as_slice();

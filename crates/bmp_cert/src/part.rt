@@ -2,6 +2,7 @@
 ghost use Rattle.std.specs.Prelude.{◌≡◌, ◌<◌, ◌≤◌, ◌^◌, ◌+◌, ◌-◌, ◌*◌, codes, IfOk};
 ghost use Rattle.bmp_text.specs.Cursor.{natural};
 ghost use Rattle.bmp_text.specs.Readers.{chain, line, single};
+ghost use Rattle.bmp_text.specs.LaterLines.{IsLaterLine, PassesLines};
 ghost use Rattle.bmp_cert.specs.Answers.{Gives};
 ghost use Rattle.bmp_cert.specs.VectorGrammar.{MOST};
 ghost use Rattle.bmp_cert.specs.CertGrammar.{from_degree, vertex_words, top, part, part_at, parts, part_lines};
@@ -42,7 +43,8 @@ fn degrees_of(alloc: Global, line: &mut Line, count: u64, most: u8) -> Result<De
 #[tactic(auto, unfolding(bmp_text::specs::Readers::line, bmp_text::specs::Readers::counted_chain))]
 fn vertex_of(alloc: Global, lines: &mut Lines, number: u64, most: u8) -> Result<Degrees, CertError>
     requires { number < 2 ^ 63 }
-    ensures { Gives (λ v. v) lines.new result (line (codes "vertex") (vertex_words number most) lines.old) }
+    ensures gives { Gives (λ v. v) lines.new result (line (codes "vertex") (vertex_words number most) lines.old) }
+    ensures later { PassesLines lines.old lines.new }
 {
     let mut line = lines.next_line()?;
     line.keyword(b"vertex")?;
@@ -59,6 +61,7 @@ pub(crate) fn count_line(lines: &mut Lines, word: &[u8], low: u64) -> Result<u32
     requires { low < 2 ^ 63 }
     ensures reads { Gives (λ n. n) lines.new result (single word.now low MOST lines.old) }
     ensures within { IfOk result (λ n. low ≤ n) }
+    ensures later { PassesLines lines.old lines.new }
 {
     let mut line = lines.next_line()?;
     line.keyword(word)?;
@@ -76,7 +79,8 @@ fn top_of(
     degree: u8,
 ) -> Result<VertexPart, CertError>
     requires { number < 2 ^ 63 }
-    ensures { Gives (λ v. v) lines.new result (top degree number lines.old) }
+    ensures gives { Gives (λ v. v) lines.new result (top degree number lines.old) }
+    ensures later { PassesLines lines.old lines.new }
 {
     let degrees = vertex_of(alloc, lines, number, degree)?;
     Ok(VertexPart {
@@ -97,7 +101,8 @@ fn part_of(
     degree: u8,
 ) -> Result<VertexPart, CertError>
     requires { number < 2 ^ 63 }
-    ensures { Gives (λ v. v) lines.new result (part most degree number lines.old) }
+    ensures gives { Gives (λ v. v) lines.new result (part most degree number lines.old) }
+    ensures later { PassesLines lines.old lines.new }
 {
     let degrees = vertex_of(alloc, lines, number, degree)?;
     let edges = count_line(lines, b"edges", 0)?;
@@ -122,7 +127,8 @@ fn part_at(
     degree: u8,
 ) -> Result<VertexPart, CertError>
     requires { number < 2 ^ 63 }
-    ensures { Gives (λ v. v) lines.new result (part_at last most degree number lines.old) }
+    ensures gives { Gives (λ v. v) lines.new result (part_at last most degree number lines.old) }
+    ensures later { PassesLines lines.old lines.new }
 {
     if number == last {
         top_of(alloc, lines, number, degree)
@@ -141,7 +147,8 @@ pub(crate) fn parts_of(
 ) -> Result<Parts, CertError>
     requires some { 1 ≤ count }
     requires few { count ≤ MOST }
-    ensures { Gives (λ v. v) lines.new result (parts most degree count lines.old) }
+    ensures gives { Gives (λ v. v) lines.new result (parts most degree count lines.old) }
+    ensures later { PassesLines lines.old lines.new }
 {
     let last = count - 1;
     let mut list = Parts::new(alloc);
@@ -155,9 +162,9 @@ pub(crate) fn parts_of(
 }
 
 /// Reads the line `vertices n` and the parts of the vertices, or gives the first fault in reading order: vectors
-/// with values below `prime`, and degrees up to `degree`. After an error `lines` stands at the start of a line, or
-/// at the end of the text.
-#[tactic(auto, unfolding(crate::specs::CertGrammar::part_lines))]
+/// with values below `prime`, and degrees up to `degree`. After an error `lines` stands where it stood, or behind a
+/// later line: at the start of a line, or at the end of the text.
+#[tactic(auto, unfolding(crate::specs::CertGrammar::part_lines), using(bmp_text::proofs::LaterLines::same_place))]
 pub fn read_parts(
     alloc: Global,
     lines: &mut Lines,
@@ -166,7 +173,8 @@ pub fn read_parts(
     degree: u8,
 ) -> Result<Parts, CertError>
     requires { _version ≡ 1 }
-    ensures { Gives (λ v. v) lines.new result (part_lines (prime - 1) degree lines.old) }
+    ensures gives { Gives (λ v. v) lines.new result (part_lines (prime - 1) degree lines.old) }
+    ensures later { IsLaterLine lines.old lines.new }
 {
     let count = count_line(lines, b"vertices", 1)?;
     let most = prime.saturating_sub(1);

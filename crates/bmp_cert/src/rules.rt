@@ -1,42 +1,158 @@
 //! The rules of a job, in the order in which they are tried.
-ghost use Rattle.std.specs.Prelude.{◌≡◌, OnOk, OnErr, IfErr};
-ghost use Rattle.bmp_cert.specs.JobRules.{KeepsRules, IsFirstFault};
+ghost use Rattle.std.specs.Prelude.{◌≡◌, ◌≤◌, OnOk, IfOk, IfErr, IsOk, IsOkUnless};
+ghost use Rattle.bmp_interval.specs.Intervals.{IsIntervalOf};
+ghost use Rattle.bmp_interval.specs.IntervalViews.{system_of, letters_of, vertices_of};
+ghost use Rattle.bmp_graph.specs.Graph.{HasGkm};
+ghost use Rattle.bmp_cert.specs.JobGraphs.{IsSystemOf, IsJobGraph, IsPrepared};
+ghost use Rattle.bmp_cert.specs.JobRules.{HasMatrix, HasRoots, HasPrime, HasLetters, HasReducedWord, HasInterval, HasDegree, IsSmall, KeepsBefore, KeepsFirstRules, KeepsRules, IsFirstFault, IsErrorOf};
+ghost use Rattle.bmp_cert.specs.JobViews.{job_of, interval_of, graph_of, prepared_of};
 
 use crate::Job;
+use crate::job_fault::{JobError, JobFault};
+use crate::prepared::{Accepted, Prepared};
+use bmp_bruhat::graph_of;
 use bmp_field::PrimeField;
-use bmp_roots::{Cartan, CartanFault, NotFinite, Roots};
-use thiserror::Error;
+use bmp_interval::{Interval, IntervalFault};
+use bmp_poly::monomials::count;
+use bmp_roots::{Cartan, Roots};
+use bmp_weyl::product;
+use std::alloc::Global;
 
-/// The first rule of a job that fails.
-#[derive(Clone, Copy, Debug, PartialEq, Eq, Error)]
-pub enum JobFault {
-    /// The rows are no Cartan matrix of rank 1 to 6.
-    #[error("{0}")]
-    Cartan(CartanFault),
-    /// The root system isn't finite within the limits.
-    #[error("{0}")]
-    Finite(NotFinite),
-    /// The number, this one, is none of the primes 2, 3, 5, 7, 11, 13.
-    #[error("prime {0}")]
-    Prime(u8),
-}
+/// The greatest number of vertices times monomials.
+const MAX_SIZE: u32 = 200_000;
 
-/// Tries the rules on the matrix, its root system and the prime, and gives the first that fails.
-/// Takes no memory.
-pub fn check_rules(j: &Job) -> Result<(), JobFault>
-    ensures kept { OnOk result (KeepsRules j.now) }
-    ensures first { IfErr result (λ fault. IsFirstFault j.now fault) }
-    ensures broken { OnErr result (KeepsRules j.now → ⊥) }
+/// The greatest degree bound.
+const MAX_DEGREE: u8 = 6;
+
+// The rules 1 and 2: the root system.
+fn roots_of(j: &Job) -> Result<Roots, JobFault>
+    ensures matrix { OnOk result (HasMatrix j.now) }
+    ensures finite { OnOk result (HasRoots j.now) }
+    ensures system { IfOk result (IsSystemOf j.now) }
+    ensures fault { IfErr result (IsFirstFault j.now) }
+    ensures only { KeepsFirstRules j.now → IsOk result }
 {
     let cartan = match Cartan::new(j.cartan.as_slice(), j.rank) {
         Ok(cartan) => cartan,
         Err(fault) => return Err(JobFault::Cartan(fault)),
     };
-    if let Err(fault) = Roots::close(&cartan) {
-        return Err(JobFault::Finite(fault));
+    match Roots::close(&cartan) {
+        Ok(roots) => Ok(roots),
+        Err(fault) => Err(JobFault::Finite(fault)),
     }
-    match PrimeField::new(j.prime) {
+}
+
+// The rules 3 and 4: the prime and the letters.
+fn check_letters(j: &Job, roots: &Roots) -> Result<(), JobFault>
+    requires matrix { HasMatrix j.now }
+    requires finite { HasRoots j.now }
+    requires system { IsSystemOf j.now roots.now }
+    ensures prime { OnOk result (HasPrime j.now) }
+    ensures letters { OnOk result (HasLetters j.now) }
+    ensures fault { IfErr result (IsFirstFault j.now) }
+    ensures only { KeepsFirstRules j.now → IsOk result }
+{
+    if PrimeField::new(j.prime).is_err() {
+        return Err(JobFault::Prime(j.prime));
+    }
+    match product(roots, j.word.as_slice()) {
         Ok(_) => Ok(()),
-        Err(_) => Err(JobFault::Prime(j.prime)),
+        Err(place) => Err(JobFault::Letter(place)),
+    }
+}
+
+// The rules 5 and 6: the interval.
+fn interval_below(alloc: Global, j: &Job, roots: &Roots) -> Result<Interval, JobError>
+    requires matrix { HasMatrix j.now }
+    requires finite { HasRoots j.now }
+    requires system { IsSystemOf j.now roots.now }
+    requires prime { HasPrime j.now }
+    requires letters { HasLetters j.now }
+    ensures reduced { OnOk result (HasReducedWord j.now) }
+    ensures few { OnOk result (HasInterval j.now) }
+    ensures roots { IfOk result (λ interval. system_of interval ≡ roots.now) }
+    ensures word { IfOk result (λ interval. letters_of interval ≡ j.now.word) }
+    ensures interval { IfOk result (λ interval. IsIntervalOf roots.now j.now.word (vertices_of interval)) }
+    ensures fault { IfErr result (IsErrorOf j.now) }
+    ensures only { KeepsFirstRules j.now → IsOkUnless result JobError.Memory }
+{
+    match Interval::below(alloc, roots, j.word.as_slice()) {
+        Ok(interval) => Ok(interval),
+        Err(IntervalFault::NotReduced { length }) => {
+            Err(JobError::Fault(JobFault::Reduced { length }))
+        }
+        Err(IntervalFault::TooMany { count }) => Err(JobError::Fault(JobFault::TooMany { count })),
+        Err(IntervalFault::Memory) => Err(JobError::Memory),
+    }
+}
+
+// The rules 1 to 6.
+fn interval_of_job(alloc: Global, j: &Job) -> Result<Interval, JobError>
+    ensures kept { OnOk result (KeepsBefore (JobFault.DegreeBound j.now.degree) j.now) }
+    ensures system { IfOk result (λ interval. IsSystemOf j.now (system_of interval)) }
+    ensures word { IfOk result (λ interval. letters_of interval ≡ j.now.word) }
+    ensures interval { IfOk result (λ interval.
+        IsIntervalOf (system_of interval) j.now.word (vertices_of interval)) }
+    ensures fault { IfErr result (IsErrorOf j.now) }
+    ensures only { KeepsFirstRules j.now → IsOkUnless result JobError.Memory }
+{
+    let roots = roots_of(j)?;
+    check_letters(j, &roots)?;
+    interval_below(alloc, j, &roots)
+}
+
+// The rules 7 and 8: the degree bound, and the number of vertices times monomials.
+fn check_size(j: &Job, interval: &Interval) -> Result<(), JobFault>
+    requires before { KeepsBefore (JobFault.DegreeBound j.now.degree) j.now }
+    requires system { IsSystemOf j.now (system_of interval.now) }
+    requires interval { IsIntervalOf (system_of interval.now) j.now.word (vertices_of interval.now) }
+    ensures kept { OnOk result (KeepsFirstRules j.now) }
+    ensures fault { IfErr result (IsFirstFault j.now) }
+    ensures only { KeepsFirstRules j.now → IsOk result }
+{
+    if j.degree > MAX_DEGREE {
+        return Err(JobFault::DegreeBound(j.degree));
+    }
+    let size = interval.len() * count(j.rank, u32::from(j.degree));
+    if size > MAX_SIZE {
+        return Err(JobFault::TooLarge { size });
+    }
+    Ok(())
+}
+
+/// Tries the rules 1 to 8, and gives the first that fails. Where all hold, the job is kept with its interval and its
+/// moment graph.
+pub fn prepare_job(alloc: Global, j: &Job) -> Result<Prepared, JobError>
+    ensures kept { OnOk result (KeepsFirstRules j.now) }
+    ensures job { IfOk result (λ p. job_of p ≡ j.now) }
+    ensures prepared { IfOk result (λ p. IsPrepared j.now (interval_of p) (graph_of p)) }
+    ensures graph { IfOk result (λ p. IsJobGraph j.now (graph_of p)) }
+    ensures fault { IfErr result (IsErrorOf j.now) }
+    ensures only { KeepsFirstRules j.now → IsOkUnless result JobError.Memory }
+{
+    let interval = interval_of_job(alloc, j)?;
+    check_size(j, &interval)?;
+    let graph = graph_of(alloc, &interval, j.prime)?;
+    Ok(Prepared {
+        job: j.copy()?,
+        interval,
+        graph,
+    })
+}
+
+/// Tries all rules, and gives the first that fails.
+pub fn accept_job(alloc: Global, j: &Job) -> Result<Accepted, JobError>
+    ensures kept { OnOk result (KeepsRules j.now) }
+    ensures job { IfOk result (λ a. job_of (prepared_of a) ≡ j.now) }
+    ensures prepared { IfOk result (λ a.
+        IsPrepared j.now (interval_of (prepared_of a)) (graph_of (prepared_of a))) }
+    ensures graph { IfOk result (λ a. IsJobGraph j.now (graph_of (prepared_of a))) }
+    ensures fault { IfErr result (IsErrorOf j.now) }
+    ensures only { KeepsRules j.now → IsOkUnless result JobError.Memory }
+{
+    let prepared = prepare_job(alloc, j)?;
+    match prepared.accept() {
+        Ok(accepted) => Ok(accepted),
+        Err(pair) => Err(JobError::Fault(JobFault::Gkm(pair))),
     }
 }

@@ -1,7 +1,7 @@
 //! The line certificate and its altered forms, a job there and back, and ranks.
 use crate::{
-    CertError, JobFault, Ranks, check_rules, is_not_built, print_cert, print_job, read_cert,
-    read_job,
+    CertError, Job, JobError, JobFault, Ranks, accept_job, is_not_built, parts_formed, prepare_job,
+    print_cert, print_job, read_cert, read_job, well_formed, well_formed_job,
 };
 use bmp_roots::CartanFault;
 use bmp_text::TextFault;
@@ -46,7 +46,8 @@ fn reads_certificates(rt: HostRuntime) -> Result<(), CertError> {
     assert_eq!(rt; print_cert(rt.alloc(), &c)?.as_slice(), LINE);
     let parts = c.vertices.copy()?;
     assert_eq!(rt; parts.len(), 2);
-    assert_eq!(rt; check_rules(&c.job), Ok(()));
+    assert_eq!(rt; parts_formed(&parts, 1, 2, 1), true);
+    assert_eq!(rt; well_formed(&c), true);
     let ranks = Ranks::of(rt.alloc(), &c)?;
     assert_eq!(rt; (ranks.vertices(), ranks.degree()), (2, 1));
     assert_eq!(rt; is_not_built(rt.alloc(), LINE)?, true);
@@ -76,14 +77,36 @@ fn finds_first_faults(rt: HostRuntime) -> Result<(), AllocError> {
 
 #[test]
 fn reads_and_prints_jobs(rt: HostRuntime) -> Result<(), CertError> {
-    let mut job = read_job(rt.alloc(), JOB)?;
+    let job = read_job(rt.alloc(), JOB)?;
+    assert_eq!(rt; well_formed_job(&job), true);
     assert_eq!(rt; print_job(rt.alloc(), &job)?.as_slice(), JOB);
+    Ok(())
+}
+
+fn job(alloc: Global) -> Result<Job, JobError> {
+    match read_job(alloc, JOB) {
+        Ok(job) => Ok(job),
+        Err(_) => Err(JobError::Memory),
+    }
+}
+
+#[test]
+fn prepares_and_accepts_jobs(rt: HostRuntime) -> Result<(), JobError> {
+    let mut job = job(rt.alloc())?;
+    let prepared = prepare_job(rt.alloc(), &job)?;
+    assert_eq!(rt; prepared.job().prime, 3);
+    assert_eq!(rt; prepared.interval().len(), 4);
+    assert_eq!(rt; prepared.graph().edges(), 4);
+    assert_eq!(rt; prepared.accept().is_ok(), true);
+    let accepted = accept_job(rt.alloc(), &job)?;
+    assert_eq!(rt; accepted.job().degree, 0);
+    assert_eq!(rt; accepted.interval().len(), 4);
+    assert_eq!(rt; accepted.graph().vertices(), 4);
     job.prime = 4;
-    assert_eq!(rt; check_rules(&job), Err(JobFault::Prime(4)));
+    let fault = JobError::Fault(JobFault::Prime(4));
+    assert_eq!(rt; accept_job(rt.alloc(), &job).err(), Some(fault));
     job.rank = 0;
-    assert_eq!(rt;
-        check_rules(&job),
-        Err(JobFault::Cartan(CartanFault::BadRank))
-    );
+    let fault = JobError::Fault(JobFault::Cartan(CartanFault::BadRank));
+    assert_eq!(rt; prepare_job(rt.alloc(), &job).err(), Some(fault));
     Ok(())
 }

@@ -1,14 +1,16 @@
 //! Vectors and rising places of a text, read.
-ghost use Rattle.std.specs.Prelude.{◌≡◌, ◌<◌, ◌≤◌, ◌^◌, ◌+◌, IfOk};
+ghost use Rattle.std.specs.Prelude.{◌≡◌, ◌<◌, ◌≤◌, ◌^◌, ◌+◌, ◌++◌, length, Ok, IfOk, IfSome, MatchOption};
 ghost use Rattle.bmp_text.specs.Cursor.{natural};
 ghost use Rattle.bmp_text.specs.Readers.{chain, line};
+ghost use Rattle.bmp_text.specs.Printing.{spaced_words, chain_text, ChainFits};
+ghost use Rattle.bmp_text.specs.LaterLines.{PassesLines};
 ghost use Rattle.bmp_cert.specs.Answers.{Gives};
-ghost use Rattle.bmp_cert.specs.VectorGrammar.{MOST, entry, behind_place, vector, vectors, rising_places};
+ghost use Rattle.bmp_cert.specs.VectorGrammar.{MOST, entry, entry_text, IsEntry, behind_place, vector, vectors, rising_places};
 
 use crate::CertError;
 use bmp_linear::{Entry, Places, Vector, Vectors};
-use bmp_text::{Line, Lines};
-use std::alloc::Global;
+use bmp_text::{Ahead, Line, Lines};
+use std::alloc::{AllocError, Global};
 
 /// The greatest count and the greatest place, 2^32 - 1.
 pub(crate) const GREATEST: u64 = 4_294_967_295;
@@ -55,11 +57,81 @@ fn vector_of(alloc: Global, line: &mut Line, most: u8) -> Result<Vector, CertErr
     entries_of(alloc, line, count, most)
 }
 
+// One entry, read ahead.
+fn entry_ahead(ahead: &mut Ahead, next: u64, most: u8) -> Option<Entry>
+    ensures read { IfSome result (λ e. ahead.old ≡ spaced_words (entry_text next e) ++ ahead.new) }
+    ensures entry { IfSome result (IsEntry most next) }
+{
+    let place = ahead.natural(next, GREATEST)?;
+    let value = ahead.natural(1, u64::from(most))?;
+    Some(Entry {
+        place: place as u32,
+        value: value as u8,
+    })
+}
+
+// So many entries, read ahead.
+fn entries_ahead(
+    alloc: Global,
+    ahead: &mut Ahead,
+    count: u64,
+    most: u8,
+) -> Result<Option<Vector>, AllocError>
+    ensures read { IfOk result (λ found. IfSome found (λ v.
+        ahead.old ≡ spaced_words (chain_text entry_text behind_place 0 v) ++ ahead.new)) }
+    ensures entries { IfOk result (λ found. IfSome found (λ v.
+        (length v ≡ count) × ChainFits (IsEntry most) behind_place 0 v)) }
+{
+    let mut entries = Vector::with_capacity(alloc, ahead.room(count, ENTRY_SIZE))?;
+    let mut next: u64 = 0;
+    'entries: for _ in 0..count {
+        let Some(entry) = entry_ahead(ahead, next, most) else {
+            return Ok(None);
+        };
+        entries.push(entry)?;
+        next = u64::from(entry.place) + 1;
+    }
+    Ok(Some(entries))
+}
+
+// A line of a keyword and a vector, read in one pass. `None` says only that something in it isn't simple.
+fn vector_ahead(
+    alloc: Global,
+    lines: &mut Lines,
+    word: &[u8],
+    most: u8,
+) -> Result<Option<Vector>, AllocError>
+    ensures found { IfOk result (λ found. MatchOption found
+        (lines.new ≡ lines.old)
+        (λ v. line word.now (vector most) lines.old ≡ Ok (v, lines.new))) }
+    ensures later { PassesLines lines.old lines.new }
+{
+    let mut ahead = lines.ahead();
+    if !ahead.keyword(word) {
+        return Ok(None);
+    }
+    let Some(count) = ahead.natural(0, GREATEST) else {
+        return Ok(None);
+    };
+    let Some(vector) = entries_ahead(alloc, &mut ahead, count, most)? else {
+        return Ok(None);
+    };
+    if !ahead.line_feed() {
+        return Ok(None);
+    }
+    lines.pass_to(&ahead);
+    Ok(Some(vector))
+}
+
 // A line of a keyword and a vector.
 #[tactic(auto, unfolding(bmp_text::specs::Readers::line))]
 fn vector_line(alloc: Global, lines: &mut Lines, word: &[u8], most: u8) -> Result<Vector, CertError>
-    ensures { Gives (λ v. v) lines.new result (line word.now (vector most) lines.old) }
+    ensures gives { Gives (λ v. v) lines.new result (line word.now (vector most) lines.old) }
+    ensures later { PassesLines lines.old lines.new }
 {
+    if let Some(vector) = vector_ahead(alloc, lines, word, most)? {
+        return Ok(vector);
+    }
     let mut line = lines.next_line()?;
     line.keyword(word)?;
     let vector = vector_of(alloc, &mut line, most)?;
@@ -75,7 +147,8 @@ pub(crate) fn vectors_of(
     most: u8,
     count: u64,
 ) -> Result<Vectors, CertError>
-    ensures { Gives (λ v. v) lines.new result (vectors word.now most count lines.old) }
+    ensures gives { Gives (λ v. v) lines.new result (vectors word.now most count lines.old) }
+    ensures later { PassesLines lines.old lines.new }
 {
     let mut list = Vectors::new(alloc);
     'vectors: for _ in 0..count {

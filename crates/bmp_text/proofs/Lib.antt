@@ -2,9 +2,12 @@ pub mod DigitLemmas
 pub mod CutLemmas
 pub mod WordLemmas
 pub mod NumeralLemmas
+pub mod SliceLemmas
 pub mod QuickLemmas
 pub mod Pairs
 pub mod LinePairs
 pub mod Loops
 pub mod PrintingLoops
+pub mod AheadLemmas
 pub mod PlaceLemmas
+pub mod LaterLines

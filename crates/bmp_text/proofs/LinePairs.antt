@@ -1,7 +1,7 @@
 -- Lines, numbers and counts as pairs of a reader and a printed form.
-use Rattle.std.proofs.Common.{◌≡◌, ℕ, ℤ, pos, negsuc, unsigned_abs, ◌^◌, ◌<◌, ◌≤◌, ◌&&◌, Bool, true, false, List, [], ◌∷◌, ◌++◌, length, Option, Some, None, Result, Ok, refl, sym, ap, ap₂, subst, ◌∙◌, append_assoc, arith, rules}
+use Rattle.std.proofs.Common.{◌≡◌, ℕ, ℤ, pos, negsuc, unsigned_abs, ◌+◌, ◌-◌, ◌^◌, ◌<◌, ◌≤◌, ◌&&◌, Bool, true, false, List, [], ◌∷◌, ◌++◌, length, Option, Some, None, Result, Ok, refl, sym, ap, ap₂, subst, ◌∙◌, append_assoc, arith, rules}
 use Rattle.std.specs.List.{AllByRecursion, list_any}
-use Rattle.std.proofs.lemmas.List.{append-nil}
+use Rattle.std.proofs.lemmas.List.{append-nil, length-append}
 use Rattle.std.specs.Str.{bytes_eq}
 use Rattle.std.specs.Fmt.{decimal, signed_decimal}
 use Rattle.std.proofs.lemmas.Slice.Eq.{bytes_eq-Decides}
@@ -155,6 +155,27 @@ abbrev done_of : {B : Type 0} → B → Result B TextFault
 done_of b = Ok b
 
 module _ {A : Type 0} (word : List ℕ) (body : Cursor (List ℕ) → Result (A × Cursor (List ℕ)) TextFault) (text : A → List (List ℕ)) (fits : A → Type 0) (keyed : IsPlainWord word) (one : Pair IsPlainWord body text fits) where
+  -- a printed line is read again, and the place behind it is known
+  pub line_again : (x : A) (n : Place) (r : List ℕ) → fits x → line word body (record { place = n; rest = line_text word (text x) ++ r }) ≡ Ok (x, record { place = place_behind n (length (word ++ spaced_words (text x))); rest = r })
+  unfolding line
+  line_again x n r h =
+      let size = length (word ++ spaced_words (text x)) in
+      let p = one.again x (line_place n size) [] h in
+      let rest = λ (parts : Cursor (List ℕ) × Cursor ℕ). keyword word parts.0 >>= λ ws. body ws >>= λ y. finish y.1 >>= λ done. done_of (y.0, parts.1) in
+      let keyed_again : bytes_eq word word ≡ true = (bytes_eq-Decides word word).1 refl in
+      ap (λ (t : Result (Cursor (List ℕ) × Cursor ℕ) TextFault). t >>= rest) (next_line_again n word (text x) r keyed (one.plain x h))
+      ∙ (rw keyed_again (ap (λ (t : List (List ℕ)). body (record { place = line_place n size; rest = t }) >>= λ y. finish y.1 >>= λ done. done_of (y.0, record { place = place_behind n size; rest = r })) (sym (append-nil (text x))))
+      ∙ ap (λ (t : Result (A × Cursor (List ℕ)) TextFault). t >>= λ y. finish y.1 >>= λ done. done_of (y.0, record { place = place_behind n size; rest = r })) p.1)
+
+  -- the same from a text whose next line is known byte by byte
+  pub line_found : (x : A) (c : Cursor ℕ) (r : List ℕ) → fits x → c.rest ≡ (word ++ spaced_words (text x)) ++ 10 ∷ r → line word body c ≡ Ok (x, record { place = place_behind c.place (length c.rest - length r - 1); rest = r })
+  line_found x c r h is =
+      let front = word ++ spaced_words (text x) in
+      let size : length (front ++ 10 ∷ r) ≡ length front + length (10 ∷ r) = length-append front (10 ∷ r) in
+      let same : length front ≡ length c.rest - length r - 1 = omega (arith, ap length is) in
+      ap (λ (t : List ℕ). line word body (record { place = c.place; rest = t })) (is ∙ sym (line_bytes word (text x) r))
+      ∙ (line_again x c.place r h ∙ ap (λ (t : ℕ). Ok (x, record { place = place_behind c.place t; rest = r })) same)
+
   pub line_pair : Pair IsAny (line word body) (λ x. line_text word (text x)) fits
   unfolding line
   line_pair = record {
@@ -169,16 +190,7 @@ module _ {A : Type 0} (word : List ℕ) (body : Cursor (List ℕ) → Result (A 
         let parts = next_line_takes c a.0.0 a.0.1 word b.0.rest a.1 (keyword_ok word a.0.0.place a.0.0.rest b.0 b.1) in
         subst (λ (t : A × Cursor ℕ). fits t.0 × (c.rest ≡ line_text word (text t.0) ++ t.1.rest)) (ok_is (f.0.0, a.0.1) (x, d) g.2)
         (p.0, parts ∙ ap (λ (t : List (List ℕ)). line_text word t ++ a.0.1.rest) all);
-    again = λ x n r h.
-        let size = length (word ++ spaced_words (text x)) in
-        let p = one.again x (line_place n size) [] h in
-        let rest = λ (parts : Cursor (List ℕ) × Cursor ℕ). keyword word parts.0 >>= λ ws. body ws >>= λ y. finish y.1 >>= λ done. done_of (y.0, parts.1) in
-        let keyed_again : bytes_eq word word ≡ true = (bytes_eq-Decides word word).1 refl in (
-          place_behind n size,
-          ap (λ (t : Result (Cursor (List ℕ) × Cursor ℕ) TextFault). t >>= rest) (next_line_again n word (text x) r keyed (one.plain x h))
-              ∙ (rw keyed_again (ap (λ (t : List (List ℕ)). body (record { place = line_place n size; rest = t }) >>= λ y. finish y.1 >>= λ done. done_of (y.0, record { place = place_behind n size; rest = r })) (sym (append-nil (text x))))
-              ∙ ap (λ (t : Result (A × Cursor (List ℕ)) TextFault). t >>= λ y. finish y.1 >>= λ done. done_of (y.0, record { place = place_behind n size; rest = r })) p.1),
-        );
+    again = λ x n r h. (place_behind n (length (word ++ spaced_words (text x))), line_again x n r h);
     plain = λ x h. any_bytes (line_text word (text x));
   }
 

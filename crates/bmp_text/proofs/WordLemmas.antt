@@ -1,7 +1,8 @@
 -- The words of a line, and the line that they make.
 use Rattle.std.proofs.Common.{◌≡◌, ℕ, ◌<◌, ◌==◌, Bool, true, false, cond, eqb, List, [], ◌∷◌, ◌++◌, Some, refl, sym, ap, ap₂, ◌∙◌, rules, arith}
 use Rattle.std.proofs.lemmas.Bool.{eqb-true}
-use Rattle.std.specs.List.{AllByRecursion, list_any}
+use Rattle.std.specs.List.{AllByRecursion, list_any, list_all}
+use Rattle.std.specs.Char.{is_ascii_graphic}
 use Rattle.bmp_text.specs.Printing.{spaced_words, joined_words}
 use Rattle.bmp_text.specs.Words.{cut, cut_with, words, words_of, words_with, is_unprintable}
 
@@ -46,10 +47,18 @@ IsPlain b = (32 < b) × (b < 127)
 abbrev pub IsPlainWord : List ℕ → Type 0
 IsPlainWord w = AllByRecursion IsPlain w
 
+pub plain_word : (w : List ℕ) → list_all is_ascii_graphic w ≡ true → IsPlainWord w
+plain_word [] h = tt
+plain_word (b ∷ w) h =
+    let low : 32 < b = search rules in
+    let high : b < 127 = search rules in
+    let others : list_all is_ascii_graphic w ≡ true = search rules in
+    ((low, high), plain_word w others)
+
 no_space : (b : ℕ) → IsPlain b → eqb b 32 ≡ false
 no_space b h = search rules
 
-plain_front : (w s : List ℕ) (ws : List (List ℕ)) → IsPlainWord w → words s ≡ [] ∷ ws → words (w ++ s) ≡ w ∷ ws
+pub plain_front : (w s : List ℕ) (ws : List (List ℕ)) → IsPlainWord w → words s ≡ [] ∷ ws → words (w ++ s) ≡ w ∷ ws
 unfolding words
 plain_front [] s ws h e = e
 plain_front (b ∷ w) s ws h e = rw (no_space b h.0) (ap (words_with b) (plain_front w s ws h.1 e))

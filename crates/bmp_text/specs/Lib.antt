@@ -6,3 +6,4 @@ pub mod Readers
 pub mod Sequence
 pub mod Printing
 pub mod Calls
+pub mod LaterLines

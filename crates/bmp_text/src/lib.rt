@@ -10,6 +10,7 @@
 //! is read again (Pairs, LinePairs), and the lemmas for loops over a step (Loops, PrintingLoops).
 #![tactic(auto)]
 
+mod ahead;
 mod fault;
 pub mod laws;
 mod line;
@@ -19,6 +20,7 @@ mod quick;
 #[cfg(test)]
 mod tests;
 
+pub use ahead::Ahead;
 pub use fault::{NumberFault, TextFault, TextKind};
 pub use line::Line;
 pub use lines::Lines;

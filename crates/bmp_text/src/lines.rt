@@ -1,12 +1,13 @@
 //! The lines of a text.
-ghost use Rattle.std.specs.Prelude.{◌≡◌};
+ghost use Rattle.std.specs.Prelude.{◌≡◌, ◌<◌, ◌-◌, length};
 ghost use Rattle.std.specs.List.{list_any};
 ghost use Rattle.bmp_text.specs.Words.{is_unprintable};
-ghost use Rattle.bmp_text.specs.Cursor.{text_start, next_line, end};
+ghost use Rattle.bmp_text.specs.Cursor.{text_start, place_behind, next_line, end};
 ghost use Rattle.bmp_text.specs.Calls.{Reads};
+ghost use Rattle.bmp_text.specs.LaterLines.{PassesLines};
 
 use crate::line::split;
-use crate::{Line, TextFault, TextKind};
+use crate::{Ahead, Line, TextFault, TextKind};
 use std::marker::Model;
 
 /// A text, and the place in it: contracts see the cursor.
@@ -55,7 +56,8 @@ impl<'a> Lines<'a> {
     /// `NotAscii` where the line holds a byte below 32 or above 126. After a fault the cursor stands
     /// where it stood.
     pub fn next_line(&mut self) -> Result<Line<'a>, TextFault>
-        ensures { Reads (λ l. l) self.old self.new result (next_line self.old) }
+        ensures reads { Reads (λ l. l) self.old self.new result (next_line self.old) }
+        ensures later { PassesLines self.old self.new }
     {
         let number = self.number;
         let (line, after) = split(b'\n', self.rest);
@@ -82,6 +84,26 @@ impl<'a> Lines<'a> {
             end,
             rest: Some(line),
         })
+    }
+
+    /// The bytes that are left, to be looked at ahead.
+    pub fn ahead(&self) -> Ahead<'a>
+        ensures { result ≡ self.now.rest }
+    {
+        Ahead { rest: self.rest }
+    }
+
+    /// Passes one line, behind which `ahead` stands.
+    pub fn pass_to(&mut self, ahead: &Ahead<'a>)
+        requires { length ahead.now < length self.old.rest }
+        ensures { self.new ≡ record {
+          place = place_behind self.old.place (length self.old.rest - length ahead.now - 1);
+          rest = ahead.now;
+        } }
+    {
+        self.start += self.rest.len() - ahead.rest.len();
+        self.rest = ahead.rest;
+        self.number += 1;
     }
 
     /// Whether no byte is left; else `TrailingText`, with the number of the line that would come.
