@@ -1,3 +1,9 @@
 pub mod Refusals
 pub mod Comparisons
+pub mod Sizes
 pub mod Verdicts
+pub mod BlockOrder
+pub mod SizeLists
+pub mod SizeTables
+pub mod SizeChecks
+pub mod Fits

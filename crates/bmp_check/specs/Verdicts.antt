@@ -1,13 +1,40 @@
--- The verdict on a certificate of one vertex: the comparisons in their order.
---   top_comparisons c     kind Top: the number of generators of the greatest vertex with 1, and then the
---                         degree of the first with 0
---   verdict c             the first comparison that fails, None where the certificate is accepted
-use Rattle.std.specs.Prelude.{ℕ, ◌-◌, List, [], ◌∷◌, Option, length, slice_index}
-use Rattle.bmp_cover.specs.declared.kind.Kind.TheVariants.{Top}
+-- The verdict on a certificate c whose job has the graph G: the first comparison that fails, or none. In the order to read:
+--   count_comparison G c          the number of vertices of the text with the graph's; kind Shape, index 0
+--   top_comparisons c             the number of generators of the greatest vertex with 1, and then the degree of the first with 0
+--   IsBlock G c x d               x is a vertex but the greatest, and d a degree up to the bound
+--   BlockIsBefore x d y e         blocks go by falling vertex and then by rising degree
+--   KernelComparesAt G c x d      the comparisons of kinds Section and Row of a block
+--   CoverComparesAt G c x d       those of kinds Cover, Source and Dual
+--   BlockPasses, IsBlockRefusal   no comparison of a block fails; the first that fails
+--   ShapePassesAt                 no size of a vertex and degree fails
+--   Passes G c                    no comparison fails at all
+--   IsFirstRefusal G c r          r is the first that fails: the number of vertices, then the shapes of all blocks, then the top, then the blocks
+use Rattle.std.specs.Prelude.{◌≡◌, ℕ, ◌+◌, ◌-◌, ◌<◌, ◌≤◌, ◌⊎◌, nat_lt, if◌then◌else◌, List, [], ◌∷◌, Some, None, length, slice_index}
+use Rattle.bmp_graph.specs.Graph.{Graph, vertex_count}
+use Rattle.bmp_linear.specs.declared.fault.RowFault.{RowFault}
+use Rattle.bmp_linear.specs.Faults.{AllPass, IsFirstFailure}
+use Rattle.bmp_linear.specs.KernelChecks.{KernelCompares}
+use Rattle.bmp_sections.specs.Numbers.{equation_matrix}
+use Rattle.bmp_sections.specs.TupleLists.{tuples_over}
+use Rattle.bmp_cover.specs.CoverChecks.{CoverCompares, CoverPasses, IsFirstCoverFailure}
+use Rattle.bmp_cover.specs.declared.fault.CoverFault.{CoverFault}
+use Rattle.bmp_cover.specs.declared.kind.Kind.TheVariants.{Shape, Top, Section, Row}
 use Rattle.bmp_cert.specs.declared.cert.Cert.{Cert}
 use Rattle.bmp_cert.specs.Counts.{part_of}
 use Rattle.bmp_check.specs.declared.refusal.Refusal.{Refusal}
 use Rattle.bmp_check.specs.Comparisons.{Comparison, equal, first_failure}
+use Rattle.bmp_check.specs.Sizes.{cert_sheaf, block_of, shape_comparisons}
+
+abbrev pub count_comparison : Graph → Cert → Comparison
+count_comparison G c = equal (record {
+  vertex = 0;
+  degree = 0;
+  kind = Shape;
+  index = 0;
+  place = 0;
+  left = length c.vertices;
+  right = vertex_count G;
+})
 
 abbrev pub top_comparison : Cert → ℕ → ℕ → ℕ → Comparison
 top_comparison c index left right = equal (record {
@@ -24,5 +51,84 @@ abbrev pub top_comparisons : Cert → List Comparison
 top_comparisons c = let degrees = (part_of c (length c.vertices - 1)).degrees in
     top_comparison c 0 (length degrees) 1 ∷ top_comparison c 1 (slice_index degrees 0) 0 ∷ []
 
-abbrev pub verdict : Cert → Option Refusal
-verdict c = first_failure (top_comparisons c)
+abbrev pub IsBlock : Graph → Cert → ℕ → ℕ → Type 0
+IsBlock G c x d = (x + 1 < vertex_count G) × (d ≤ c.job.degree)
+
+abbrev pub BlockIsBefore : ℕ → ℕ → ℕ → ℕ → Type 0
+BlockIsBefore x d y e = (y < x) ⊎ ((x ≡ y) × (d < e))
+
+module _ (G : Graph) (c : Cert) (x d : ℕ) where
+  abbrev pub KernelComparesAt : RowFault → Type 0
+  KernelComparesAt = KernelCompares G.prime (equation_matrix G (cert_sheaf G c) x d) (block_of c x d).kernel
+
+  abbrev pub CoverComparesAt : CoverFault → Type 0
+  CoverComparesAt = CoverCompares G (cert_sheaf G c) x d (tuples_over G (cert_sheaf G c) x d (block_of c x d).kernel.basis) (block_of c x d).cover
+
+  -- the tuples come first; the combinations of the equations have indices of their own
+  abbrev pub kernel_refusal : RowFault → Refusal
+  kernel_refusal r = let tuples = length (block_of c x d).kernel.basis in record {
+    vertex = x;
+    degree = d;
+    kind = if nat_lt r.index tuples then Section else Row;
+    index = if nat_lt r.index tuples then r.index else r.index - tuples;
+    place = r.place;
+    left = r.left;
+    right = r.right;
+  }
+
+  abbrev pub cover_refusal : CoverFault → Refusal
+  cover_refusal r = record { vertex = x; degree = d; kind = r.kind; index = r.index; place = r.place; left = r.left; right = r.right }
+
+  abbrev pub BlockPasses : Type 0
+  BlockPasses = AllPass KernelComparesAt × CoverPasses CoverComparesAt
+
+  abbrev pub IsBlockRefusal : Refusal → Type 0
+  IsBlockRefusal r =
+      ((fault : RowFault) × IsFirstFailure KernelComparesAt fault × (r ≡ kernel_refusal fault))
+      ⊎ (AllPass KernelComparesAt × ((fault : CoverFault) × IsFirstCoverFailure CoverComparesAt fault × (r ≡ cover_refusal fault)))
+
+  abbrev pub ShapePassesAt : Type 0
+  ShapePassesAt = first_failure (shape_comparisons G c x d) ≡ None
+
+module _ (G : Graph) (c : Cert) where
+  abbrev pub CountPasses : Type 0
+  CountPasses = length c.vertices ≡ vertex_count G
+
+  abbrev pub ShapePasses : Type 0
+  ShapePasses = (x d : ℕ) → IsBlock G c x d → ShapePassesAt G c x d
+
+  abbrev pub TopPasses : Type 0
+  TopPasses = first_failure (top_comparisons c) ≡ None
+
+  pub record Passes : Type 0 where
+    pub count : CountPasses
+    pub shape : ShapePasses
+    pub top : TopPasses
+    pub blocks : (x d : ℕ) → IsBlock G c x d → BlockPasses G c x d
+
+  -- the first block whose shape fails, and its first failure
+  pub record IsShapeRefusal (r : Refusal) : Type 0 where
+    pub vertex : ℕ
+    pub degree : ℕ
+    pub block : IsBlock G c vertex degree
+    pub earlier : (x d : ℕ) → IsBlock G c x d → BlockIsBefore x d vertex degree → ShapePassesAt G c x d
+    pub first : first_failure (shape_comparisons G c vertex degree) ≡ Some r
+
+  -- the first block that fails, and its first failure
+  pub record IsFirstBlockRefusal (r : Refusal) : Type 0 where
+    pub vertex : ℕ
+    pub degree : ℕ
+    pub block : IsBlock G c vertex degree
+    pub earlier : (x d : ℕ) → IsBlock G c x d → BlockIsBefore x d vertex degree → BlockPasses G c x d
+    pub first : IsBlockRefusal G c vertex degree r
+
+  abbrev pub IsCountRefusal : Refusal → Type 0
+  IsCountRefusal r = first_failure (count_comparison G c ∷ []) ≡ Some r
+
+  abbrev pub IsTopRefusal : Refusal → Type 0
+  IsTopRefusal r = first_failure (top_comparisons c) ≡ Some r
+
+  abbrev pub IsFirstRefusal : Refusal → Type 0
+  IsFirstRefusal r =
+      IsCountRefusal r
+      ⊎ (CountPasses × (IsShapeRefusal r ⊎ (ShapePasses × (IsTopRefusal r ⊎ (TopPasses × IsFirstBlockRefusal r)))))

@@ -1,12 +1,29 @@
 //! The check of a certificate: comparisons in a fixed order, and the first that fails.
 //!
 //! The verdict on a certificate is the first comparison that fails, with its numbers, or none
-//! (`specs/Verdicts`). What stands here are the comparisons of the greatest vertex, which are all that a
-//! certificate of one vertex has.
+//! (`specs/Verdicts`). First come the number of vertices ([`check_count`]) and the sizes of all blocks
+//! ([`check_shape`]), by a table that is made once ([`SizeTable`]); then the greatest vertex ([`check_top`]).
+//! Blocks go by falling vertex and then by rising degree ([`block_at`]).
 #![tactic(auto)]
 
+mod blocks;
+mod counts;
+pub mod laws;
+mod need;
+mod part;
 mod refusal;
+mod shape;
+mod shape_sizes;
+mod size_check;
+mod size_rows;
+mod sizes;
+#[cfg(test)]
+mod tests;
 mod top;
 
+pub use blocks::{block_at, block_count};
 pub use refusal::{CheckError, Refusal, refusal_line};
+pub use shape::{check_count, check_shape};
+pub use size_rows::SizeRows;
+pub use sizes::{BlockSizes, SizeTable};
 pub use top::check_top;

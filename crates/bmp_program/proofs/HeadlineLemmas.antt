@@ -8,7 +8,7 @@ use Rattle.bmp_cert.specs.declared.cert.Cert.{Cert}
 use Rattle.bmp_cert.specs.CertGrammar.{cert, cert_text, IsWellFormed}
 use Rattle.bmp_report.specs.RankLines.{cert_rank_lines}
 use Rattle.bmp_program.specs.CommandLine.{asked}
-use Rattle.bmp_program.specs.Reports.{CheckReport, CommandReport, IsReport}
+use Rattle.bmp_program.specs.Reports.{InputReport, CommandReport, IsReport}
 use Rattle.bmp_program.specs.Runs.{Report, Holds, Reports, DecidedBy, IsDecided}
 use Rattle.bmp_program.specs.Headline.{Certifies, IsCertified}
 use Rattle.bmp_program.specs.declared.words.CommandWord.{CommandWord}
@@ -17,28 +17,29 @@ use Rattle.bmp_program.specs.declared.status.Status.{Status}
 use Rattle.bmp_program.specs.declared.status.Status.TheVariants.{Done}
 
 -- the certificate of a report with status 0
-certified : (input text : List ℕ) → CheckReport input Done text → (c : Cert) × Certifies c input × (text ≡ cert_rank_lines c)
-unfolding CheckReport
-certified input text (read, found) = (
-  found.0,
-  record {
-    well_formed = found.1.0;
-    is_text = found.1.1;
-    only = λ d formed of_d. whole_same cert cert_text IsWellFormed cert_pair d found.0 formed found.1.0 (sym of_d ∙ found.1.1);
-    rules = found.2.0;
-    holds = found.2.1;
-  },
-  found.2.2,
-)
+certified : (input text : List ℕ) → InputReport Check input Done text → (c : Cert) × Certifies c input × (text ≡ cert_rank_lines c)
+unfolding InputReport
+certified input text (fits, body) =
+    let found = body.1 in (
+      found.0,
+      record {
+        well_formed = found.1.0;
+        is_text = found.1.1;
+        only = λ d formed of_d. whole_same cert cert_text IsWellFormed cert_pair d found.0 formed found.1.0 (sym of_d ∙ found.1.1);
+        rules = found.2.0;
+        holds = found.2.1;
+      },
+      found.2.2,
+    )
 
-check_report : (words : List Text) (input text : List ℕ) (status : Status) → asked words ≡ Some Check → status ≡ Done → IsReport words input status text → CheckReport input Done text
+check_report : (words : List Text) (input text : List ℕ) (status : Status) → asked words ≡ Some Check → status ≡ Done → IsReport words input status text → InputReport Check input Done text
 unfolding IsReport
 check_report words input text status asks done report =
     let by_command : CommandReport (Some Check) input status text =
     subst (λ (command : Option CommandWord). CommandReport command input status text) asks report in
-    subst (λ (s : Status). CheckReport input s text) done by_command
+    subst (λ (s : Status). InputReport Check input s text) done by_command
 
-written : (left before after : Option (List ℕ)) (input text : List ℕ) → Holds left input → CheckReport input Done text → Takes before after text → IsCertified left before after
+written : (left before after : Option (List ℕ)) (input text : List ℕ) → Holds left input → InputReport Check input Done text → Takes before after text → IsCertified left before after
 written None before after input text held report takes = tt
 written (Some left) before after input text held report takes =
     let found : (c : Cert) × Certifies c input × (text ≡ cert_rank_lines c) = certified input text report in (

@@ -1,3 +1,4 @@
 pub mod ReportLemmas
 pub mod HeadlineLemmas
 pub mod StatusLemmas
+pub mod JobAnswerLemmas

@@ -1,19 +1,24 @@
 -- Words and input have one status at most.
-use Rattle.std.proofs.Common.{◌≡◌, ◌<◌, ◌≤◌, ◌⊎◌, inl, inr, ℕ, List, Option, Some, None, Ok, Err, IsTrue, refl, sym, subst, ◌∙◌, arith, length}
+use Rattle.std.proofs.Common.{◌≡◌, ◌<◌, ◌≤◌, ◌⊎◌, false, inl, inr, ℕ, List, Option, Some, None, Ok, Err, IsTrue, refl, sym, subst, ◌∙◌, arith, length}
 use Rattle.bmp_text.specs.declared.fault.TextFault.{TextFault}
 use Rattle.bmp_text.specs.Readers.{whole}
 use Rattle.bmp_text.proofs.Pairs.{whole_again}
 use Rattle.bmp_cert.proofs.CertPairs.{cert_pair}
+use Rattle.bmp_cert.proofs.RuleLemmas.{breaks_first_rules}
+use Rattle.bmp_cert.specs.declared.job.Job.{Job}
+use Rattle.bmp_cert.specs.declared.job_fault.JobFault.{JobFault}
+use Rattle.bmp_cert.specs.declared.job_fault.JobFault.TheVariants.{Cartan, Finite, Prime, Letter, Reduced, TooMany, DegreeBound, TooLarge, Gkm}
 use Rattle.bmp_cert.specs.declared.cert.Cert.{Cert}
+use Rattle.bmp_cert.proofs.JobPairs.{job_pair}
+use Rattle.bmp_cert.specs.JobGrammar.{job, job_text, IsWellFormedJob}
 use Rattle.bmp_cert.specs.CertGrammar.{cert, cert_text, IsWellFormed}
-use Rattle.bmp_cert.specs.JobRules.{KeepsRules}
+use Rattle.bmp_cert.specs.JobRules.{HasGkmGraph, KeepsFirstRules, KeepsRules, IsFirstFault}
 use Rattle.bmp_cert.specs.NotBuilt.{is_not_built}
 use Rattle.bmp_check.specs.declared.refusal.Refusal.{Refusal}
-use Rattle.bmp_check.specs.Verdicts.{verdict}
 use Rattle.bmp_program.specs.CommandLine.{asked}
-use Rattle.bmp_program.specs.Reports.{input_limit, IsRead, IsCertOf, CertReport, CheckReport, CommandReport, IsReport, HasOneStatus}
+use Rattle.bmp_program.specs.Reports.{input_limit, IsCertOf, IsJobOf, fault_status, point_verdict, CertReport, GraphReport, GkmReport, CertTextReport, JobTextReport, TextReport, InputReport, CommandReport, IsReport, HasOneStatus}
 use Rattle.bmp_program.specs.declared.words.CommandWord.{CommandWord}
-use Rattle.bmp_program.specs.declared.words.CommandWord.TheVariants.{Check}
+use Rattle.bmp_program.specs.declared.words.CommandWord.TheVariants.{Check, Graph as GraphCommand, Gkm as GkmCommand}
 use Rattle.bmp_program.specs.declared.status.Status.{Status}
 use Rattle.bmp_program.specs.declared.status.Status.TheVariants.{Done, Refused, BadText, BadJob, GkmFailed, ReadFault, WriteFault, NoMemory, TooLong, NotBuilt, Usage}
 
@@ -23,18 +28,46 @@ read_as c input is = subst (λ (bytes : List ℕ). whole cert bytes ≡ Ok c) (s
 
 -- ---- the cases of a certificate
 
+-- a job that breaks a rule: one of the first eight, or the last
+JobCase : Job → Status → Type 0
+JobCase j s = ((s ≡ BadJob) × (KeepsFirstRules j → ⊥)) ⊎ ((s ≡ GkmFailed) × KeepsFirstRules j × (HasGkmGraph j → ⊥))
+
+job_case : (j : Job) (s : Status) (f : JobFault) → IsFirstFault j f → s ≡ fault_status f → JobCase j s
+unfolding JobCase
+job_case j s (Cartan f) h is = inl (is, breaks_first_rules j (Cartan f) tt h)
+job_case j s (Finite e) h is = inl (is, breaks_first_rules j (Finite e) tt h)
+job_case j s (Prime p) h is = inl (is, breaks_first_rules j (Prime p) tt h)
+job_case j s (Letter e) h is = inl (is, breaks_first_rules j (Letter e) tt h)
+job_case j s (Reduced n) h is = inl (is, breaks_first_rules j (Reduced n) tt h)
+job_case j s (TooMany n) h is = inl (is, breaks_first_rules j (TooMany n) tt h)
+job_case j s (DegreeBound d) h is = inl (is, breaks_first_rules j (DegreeBound d) tt h)
+job_case j s (TooLarge n) h is = inl (is, breaks_first_rules j (TooLarge n) tt h)
+job_case j s (Gkm p) h is = inr (is, h.before, h.broken)
+
+job_breaks : (j : Job) (s : Status) → JobCase j s → KeepsRules j → ⊥
+unfolding JobCase
+job_breaks j s (inl a) kept = a.1 kept.0
+job_breaks j s (inr a) kept = a.2 kept.1
+
+one_job_case : (j : Job) (s t : Status) → JobCase j s → JobCase j t → s ≡ t
+unfolding JobCase
+one_job_case j s t (inl a) (inl b) = a.0 ∙ sym b.0
+one_job_case j s t (inl a) (inr b) = absurd (a.1 b.1)
+one_job_case j s t (inr a) (inl b) = absurd (b.1 a.1)
+one_job_case j s t (inr a) (inr b) = a.0 ∙ sym b.0
+
 CertCase : Cert → Status → Type 0
-CertCase c s = ((s ≡ BadJob) × (KeepsRules c.job → ⊥))
-    ⊎ (((s ≡ Refused) × KeepsRules c.job × ((r : Refusal) × (verdict c ≡ Some r)))
-    ⊎ ((s ≡ Done) × KeepsRules c.job × (verdict c ≡ None)))
+CertCase c s = JobCase c.job s
+    ⊎ (((s ≡ Refused) × KeepsRules c.job × ((r : Refusal) × (point_verdict c ≡ Some r)))
+    ⊎ ((s ≡ Done) × KeepsRules c.job × (point_verdict c ≡ None)))
 
 cert_case : (c : Cert) (s : Status) (text : List ℕ) → CertReport c s text → CertCase c s
 unfolding CertCase
-cert_case c BadJob text is = inl (refl, is.0)
+cert_case c BadJob text is = inl (job_case c.job BadJob is.0 is.1 is.2)
+cert_case c GkmFailed text is = inl (job_case c.job GkmFailed is.0 is.1 is.2)
 cert_case c Refused text is = inr (inl (refl, is.0, (is.1.0, is.1.1)))
 cert_case c Done text is = inr (inr (refl, is.0, is.1))
 cert_case c BadText text is = absurd is
-cert_case c GkmFailed text is = absurd is
 cert_case c ReadFault text is = absurd is
 cert_case c WriteFault text is = absurd is
 cert_case c NoMemory text is = absurd is
@@ -44,70 +77,181 @@ cert_case c Usage text is = absurd is
 
 one_cert_case : (c : Cert) (s t : Status) → CertCase c s → CertCase c t → s ≡ t
 unfolding CertCase
-one_cert_case c s t (inl a) (inl b) = a.0 ∙ sym b.0
-one_cert_case c s t (inl a) (inr (inl b)) = absurd (a.1 b.1)
-one_cert_case c s t (inl a) (inr (inr b)) = absurd (a.1 b.1)
-one_cert_case c s t (inr (inl a)) (inl b) = absurd (b.1 a.1)
+one_cert_case c s t (inl a) (inl b) = one_job_case c.job s t a b
+one_cert_case c s t (inl a) (inr (inl b)) = absurd (job_breaks c.job s a b.1)
+one_cert_case c s t (inl a) (inr (inr b)) = absurd (job_breaks c.job s a b.1)
+one_cert_case c s t (inr (inl a)) (inl b) = absurd (job_breaks c.job t b a.1)
 one_cert_case c s t (inr (inl a)) (inr (inl b)) = a.0 ∙ sym b.0
 one_cert_case c s t (inr (inl a)) (inr (inr b)) = let p = a.2.1 in let q = b.2 in cc
-one_cert_case c s t (inr (inr a)) (inl b) = absurd (b.1 a.1)
+one_cert_case c s t (inr (inr a)) (inl b) = absurd (job_breaks c.job t b a.1)
 one_cert_case c s t (inr (inr a)) (inr (inl b)) = let p = b.2.1 in let q = a.2 in cc
 one_cert_case c s t (inr (inr a)) (inr (inr b)) = a.0 ∙ sym b.0
 
--- ---- the cases of an input
+-- ---- the cases of a certificate's text
 
-InputCase : List ℕ → Status → Type 0
-InputCase input s = ((s ≡ TooLong) × (input_limit < length input))
-    ⊎ (((s ≡ NotBuilt) × (length input ≤ input_limit) × IsTrue (is_not_built input))
-    ⊎ (((s ≡ BadText) × IsRead input × ((f : TextFault) × (whole cert input ≡ Err f)))
-    ⊎ (IsRead input × ((c : Cert) × (whole cert input ≡ Ok c) × CertCase c s))))
+CertTextCase : List ℕ → Status → Type 0
+CertTextCase input s = ((s ≡ NotBuilt) × IsTrue (is_not_built input))
+    ⊎ (((s ≡ BadText) × (is_not_built input ≡ false) × ((f : TextFault) × (whole cert input ≡ Err f)))
+    ⊎ ((is_not_built input ≡ false) × ((c : Cert) × (whole cert input ≡ Ok c) × CertCase c s)))
 
-at_cert : (input : List ℕ) (s : Status) (text : List ℕ) → (IsRead input × ((c : Cert) × IsCertOf c input × CertReport c s text)) → InputCase input s
-unfolding InputCase
+at_cert : (input : List ℕ) (s : Status) (text : List ℕ) → ((is_not_built input ≡ false) × ((c : Cert) × IsCertOf c input × CertReport c s text)) → CertTextCase input s
+unfolding CertTextCase
 at_cert input s text (read, found) =
-    inr (inr (inr (read, (found.0, read_as found.0 input found.1, cert_case found.0 s text found.2))))
+    inr (inr (read, (found.0, read_as found.0 input found.1, cert_case found.0 s text found.2)))
 
-input_case : (input : List ℕ) (s : Status) (text : List ℕ) → CheckReport input s text → InputCase input s
-unfolding CheckReport InputCase
-input_case input TooLong text is = inl (refl, is.0)
-input_case input NotBuilt text is = inr (inl (refl, is.0, is.1))
-input_case input BadText text is = inr (inr (inl (refl, is.0, (is.1.0, is.1.1))))
-input_case input BadJob text is = at_cert input BadJob text is
-input_case input Refused text is = at_cert input Refused text is
-input_case input Done text is = at_cert input Done text is
-input_case input GkmFailed text is = at_cert input GkmFailed text is
-input_case input ReadFault text is = at_cert input ReadFault text is
-input_case input WriteFault text is = at_cert input WriteFault text is
-input_case input NoMemory text is = at_cert input NoMemory text is
-input_case input Usage text is = at_cert input Usage text is
+cert_text_case : (input : List ℕ) (s : Status) (text : List ℕ) → CertTextReport input s text → CertTextCase input s
+unfolding CertTextCase
+cert_text_case input NotBuilt text is = inl (refl, is.0)
+cert_text_case input BadText text is = inr (inl (refl, is.0, (is.1.0, is.1.1)))
+cert_text_case input TooLong text is = at_cert input TooLong text is
+cert_text_case input BadJob text is = at_cert input BadJob text is
+cert_text_case input Refused text is = at_cert input Refused text is
+cert_text_case input Done text is = at_cert input Done text is
+cert_text_case input GkmFailed text is = at_cert input GkmFailed text is
+cert_text_case input ReadFault text is = at_cert input ReadFault text is
+cert_text_case input WriteFault text is = at_cert input WriteFault text is
+cert_text_case input NoMemory text is = at_cert input NoMemory text is
+cert_text_case input Usage text is = at_cert input Usage text is
 
 same_cert : (input : List ℕ) (c d : Cert) (s t : Status) → whole cert input ≡ Ok c → whole cert input ≡ Ok d → CertCase c s → CertCase d t → s ≡ t
 same_cert input c d s t of_c of_d p q =
     let same : d ≡ c = cc in
     one_cert_case c s t p (subst (λ (e : Cert). CertCase e t) same q)
 
-one_input_case : (input : List ℕ) (s t : Status) → InputCase input s → InputCase input t → s ≡ t
+one_cert_text_case : (input : List ℕ) (s t : Status) → CertTextCase input s → CertTextCase input t → s ≡ t
+unfolding CertTextCase
+one_cert_text_case input s t (inl a) (inl b) = a.0 ∙ sym b.0
+one_cert_text_case input s t (inl a) (inr (inl b)) = let p = a.1 in let q = b.1 in cc
+one_cert_text_case input s t (inl a) (inr (inr b)) = let p = a.1 in let q = b.0 in cc
+one_cert_text_case input s t (inr (inl a)) (inl b) = let p = b.1 in let q = a.1 in cc
+one_cert_text_case input s t (inr (inl a)) (inr (inl b)) = a.0 ∙ sym b.0
+one_cert_text_case input s t (inr (inl a)) (inr (inr b)) = let p = a.2.1 in let q = b.1.1 in cc
+one_cert_text_case input s t (inr (inr a)) (inl b) = let p = b.1 in let q = a.0 in cc
+one_cert_text_case input s t (inr (inr a)) (inr (inl b)) = let p = b.2.1 in let q = a.1.1 in cc
+one_cert_text_case input s t (inr (inr a)) (inr (inr b)) = same_cert input a.1.0 b.1.0 s t a.1.1 b.1.1 a.1.2 b.1.2
+
+-- ---- the cases of a job's text
+
+-- the text of a job is read as that job
+read_as_job : (j : Job) (input : List ℕ) → IsJobOf j input → whole job input ≡ Ok j
+read_as_job j input is = subst (λ (bytes : List ℕ). whole job bytes ≡ Ok j) (sym is.1) (whole_again job job_text IsWellFormedJob job_pair j is.0)
+
+-- the rules that are tried either all hold, or the first that fails decides
+Decides : (Job → Type 0) → Job → Status → Type 0
+Decides Kept j s = ((s ≡ Done) × Kept j) ⊎ (JobCase j s × (Kept j → ⊥))
+
+one_decided : (Kept : Job → Type 0) (j : Job) (s t : Status) → Decides Kept j s → Decides Kept j t → s ≡ t
+unfolding Decides
+one_decided Kept j s t (inl a) (inl b) = a.0 ∙ sym b.0
+one_decided Kept j s t (inl a) (inr b) = absurd (b.1 a.1)
+one_decided Kept j s t (inr a) (inl b) = absurd (a.1 b.1)
+one_decided Kept j s t (inr a) (inr b) = one_job_case j s t a.0 b.0
+
+bad_job : (j : Job) → JobCase j BadJob → KeepsFirstRules j → ⊥
+unfolding JobCase
+bad_job j (inl a) kept = a.1 kept
+bad_job j (inr a) kept = let p = a.0 in cc
+
+graph_case : (j : Job) (s : Status) (text : List ℕ) → GraphReport j s text → Decides KeepsFirstRules j s
+unfolding Decides
+graph_case j Done text is = inl (refl, is.0)
+graph_case j BadJob text is = let broken = job_case j BadJob is.0 is.1 is.2 in inr (broken, bad_job j broken)
+graph_case j GkmFailed text is = absurd is
+graph_case j BadText text is = absurd is
+graph_case j Refused text is = absurd is
+graph_case j ReadFault text is = absurd is
+graph_case j WriteFault text is = absurd is
+graph_case j NoMemory text is = absurd is
+graph_case j TooLong text is = absurd is
+graph_case j NotBuilt text is = absurd is
+graph_case j Usage text is = absurd is
+
+gkm_case : (j : Job) (s : Status) (text : List ℕ) → GkmReport j s text → Decides KeepsRules j s
+unfolding Decides
+gkm_case j Done text is = inl (refl, is.0)
+gkm_case j BadJob text is = let broken = job_case j BadJob is.0 is.1 is.2 in inr (broken, job_breaks j BadJob broken)
+gkm_case j GkmFailed text is = let broken = job_case j GkmFailed is.0 is.1 is.2 in inr (broken, job_breaks j GkmFailed broken)
+gkm_case j BadText text is = absurd is
+gkm_case j Refused text is = absurd is
+gkm_case j ReadFault text is = absurd is
+gkm_case j WriteFault text is = absurd is
+gkm_case j NoMemory text is = absurd is
+gkm_case j TooLong text is = absurd is
+gkm_case j NotBuilt text is = absurd is
+gkm_case j Usage text is = absurd is
+
+JobTextCase : (Job → Type 0) → List ℕ → Status → Type 0
+JobTextCase Kept input s = ((s ≡ BadText) × ((f : TextFault) × (whole job input ≡ Err f)))
+    ⊎ ((j : Job) × (whole job input ≡ Ok j) × Decides Kept j s)
+
+module _ (report : Job → Status → List ℕ → Type 0) (Kept : Job → Type 0) (of : (j : Job) (s : Status) (text : List ℕ) → report j s text → Decides Kept j s) (input text : List ℕ) where
+  at_job : (s : Status) → ((j : Job) × IsJobOf j input × report j s text) → JobTextCase Kept input s
+  unfolding JobTextCase
+  at_job s found = inr (found.0, read_as_job found.0 input found.1, of found.0 s text found.2)
+
+  job_text_case : (s : Status) → JobTextReport report input s text → JobTextCase Kept input s
+  unfolding JobTextCase
+  job_text_case BadText is = inl (refl, (is.0, is.1))
+  job_text_case NotBuilt is = at_job NotBuilt is
+  job_text_case TooLong is = at_job TooLong is
+  job_text_case BadJob is = at_job BadJob is
+  job_text_case Refused is = at_job Refused is
+  job_text_case Done is = at_job Done is
+  job_text_case GkmFailed is = at_job GkmFailed is
+  job_text_case ReadFault is = at_job ReadFault is
+  job_text_case WriteFault is = at_job WriteFault is
+  job_text_case NoMemory is = at_job NoMemory is
+  job_text_case Usage is = at_job Usage is
+
+same_job : (Kept : Job → Type 0) (input : List ℕ) (i j : Job) (s t : Status) → whole job input ≡ Ok i → whole job input ≡ Ok j → Decides Kept i s → Decides Kept j t → s ≡ t
+same_job Kept input i j s t of_i of_j p q =
+    let same : j ≡ i = cc in
+    one_decided Kept i s t p (subst (λ (k : Job). Decides Kept k t) same q)
+
+one_job_text_case : (Kept : Job → Type 0) (input : List ℕ) (s t : Status) → JobTextCase Kept input s → JobTextCase Kept input t → s ≡ t
+unfolding JobTextCase
+one_job_text_case Kept input s t (inl a) (inl b) = a.0 ∙ sym b.0
+one_job_text_case Kept input s t (inl a) (inr b) = let p = a.1.1 in let q = b.1 in cc
+one_job_text_case Kept input s t (inr a) (inl b) = let p = b.1.1 in let q = a.1 in cc
+one_job_text_case Kept input s t (inr a) (inr b) = same_job Kept input a.0 b.0 s t a.1 b.1 a.2 b.2
+
+-- ---- the cases of an input
+
+one_text : (command : CommandWord) (input : List ℕ) (s t : Status) (a b : List ℕ) → TextReport command input s a → TextReport command input t b → s ≡ t
+one_text Check input s t a b p q = one_cert_text_case input s t (cert_text_case input s a p) (cert_text_case input t b q)
+one_text GraphCommand input s t a b p q =
+    one_job_text_case KeepsFirstRules input s t (job_text_case GraphReport KeepsFirstRules graph_case input a s p) (job_text_case GraphReport KeepsFirstRules graph_case input b t q)
+one_text GkmCommand input s t a b p q =
+    one_job_text_case KeepsRules input s t (job_text_case GkmReport KeepsRules gkm_case input a s p) (job_text_case GkmReport KeepsRules gkm_case input b t q)
+
+InputCase : CommandWord → List ℕ → Status → List ℕ → Type 0
+InputCase command input s text = ((s ≡ TooLong) × (input_limit < length input))
+    ⊎ ((length input ≤ input_limit) × TextReport command input s text)
+
+input_case : (command : CommandWord) (input : List ℕ) (s : Status) (text : List ℕ) → InputReport command input s text → InputCase command input s text
+unfolding InputReport InputCase
+input_case command input TooLong text is = inl (refl, is.0)
+input_case command input NotBuilt text is = inr is
+input_case command input BadText text is = inr is
+input_case command input BadJob text is = inr is
+input_case command input Refused text is = inr is
+input_case command input Done text is = inr is
+input_case command input GkmFailed text is = inr is
+input_case command input ReadFault text is = inr is
+input_case command input WriteFault text is = inr is
+input_case command input NoMemory text is = inr is
+input_case command input Usage text is = inr is
+
+one_input_case : (command : CommandWord) (input : List ℕ) (s t : Status) (a b : List ℕ) → InputCase command input s a → InputCase command input t b → s ≡ t
 unfolding InputCase
-one_input_case input s t (inl a) (inl b) = a.0 ∙ sym b.0
-one_input_case input s t (inl a) (inr (inl b)) = absurd (omega (arith, a.1, b.1))
-one_input_case input s t (inl a) (inr (inr (inl b))) = absurd (omega (arith, a.1, b.1.0))
-one_input_case input s t (inl a) (inr (inr (inr b))) = absurd (omega (arith, a.1, b.0.0))
-one_input_case input s t (inr (inl a)) (inl b) = absurd (omega (arith, b.1, a.1))
-one_input_case input s t (inr (inl a)) (inr (inl b)) = a.0 ∙ sym b.0
-one_input_case input s t (inr (inl a)) (inr (inr (inl b))) = let p = a.2 in let q = b.1.1 in cc
-one_input_case input s t (inr (inl a)) (inr (inr (inr b))) = let p = a.2 in let q = b.0.1 in cc
-one_input_case input s t (inr (inr (inl a))) (inl b) = absurd (omega (arith, b.1, a.1.0))
-one_input_case input s t (inr (inr (inl a))) (inr (inl b)) = let p = b.2 in let q = a.1.1 in cc
-one_input_case input s t (inr (inr (inl a))) (inr (inr (inl b))) = a.0 ∙ sym b.0
-one_input_case input s t (inr (inr (inl a))) (inr (inr (inr b))) = let p = a.2.1 in let q = b.1.1 in cc
-one_input_case input s t (inr (inr (inr a))) (inl b) = absurd (omega (arith, b.1, a.0.0))
-one_input_case input s t (inr (inr (inr a))) (inr (inl b)) = let p = b.2 in let q = a.0.1 in cc
-one_input_case input s t (inr (inr (inr a))) (inr (inr (inl b))) = let p = b.2.1 in let q = a.1.1 in cc
-one_input_case input s t (inr (inr (inr a))) (inr (inr (inr b))) = same_cert input a.1.0 b.1.0 s t a.1.1 b.1.1 a.1.2 b.1.2
+one_input_case command input s t a b (inl p) (inl q) = p.0 ∙ sym q.0
+one_input_case command input s t a b (inl p) (inr q) = absurd (omega (arith, p.1, q.0))
+one_input_case command input s t a b (inr p) (inl q) = absurd (omega (arith, q.1, p.0))
+one_input_case command input s t a b (inr p) (inr q) = one_text command input s t a b p.1 q.1
 
 by_command : (command : Option CommandWord) (input : List ℕ) (s t : Status) (a b : List ℕ) → CommandReport command input s a → CommandReport command input t b → s ≡ t
 by_command None input s t a b p q = p.0 ∙ sym q.0
-by_command (Some Check) input s t a b p q = one_input_case input s t (input_case input s a p) (input_case input t b q)
+by_command (Some command) input s t a b p q = one_input_case command input s t a b (input_case command input s a p) (input_case command input t b q)
 
 pub one_status : HasOneStatus
 unfolding IsReport

@@ -9,15 +9,15 @@ use Rattle.bmp_ports.specs.Ports.{Takes}
 use Rattle.bmp_cert.specs.declared.cert.Cert.{Cert}
 use Rattle.bmp_cert.specs.CertGrammar.{cert_text, IsWellFormed}
 use Rattle.bmp_cert.specs.JobRules.{KeepsRules}
-use Rattle.bmp_check.specs.Verdicts.{verdict}
 use Rattle.bmp_report.specs.RankLines.{cert_rank_lines}
+use Rattle.bmp_program.specs.Reports.{point_verdict}
 
 pub record Certifies (c : Cert) (input : List ℕ) : Type 0 where
   pub well_formed : IsWellFormed c
   pub is_text : input ≡ cert_text c
   pub only : (d : Cert) → IsWellFormed d → input ≡ cert_text d → d ≡ c
   pub rules : KeepsRules c.job
-  pub holds : verdict c ≡ None
+  pub holds : point_verdict c ≡ None
 
 abbrev pub IsCertified : Option (List ℕ) → Option (List ℕ) → Option (List ℕ) → Type 0
 IsCertified left before after =

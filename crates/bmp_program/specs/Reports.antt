@@ -3,13 +3,19 @@
 --   read_fault_line, no_memory_line
 --                               the lines of faults that no input decides
 --   input_limit                 the most bytes that are read
---   IsRead input                the input is within the limit, and none of the certificates that aren't read yet
---   IsCertOf c input            c is well formed, and the input is its text
+--   IsCertOf c input, IsJobOf j input
+--                               c, or j, is well formed, and the input is its text
+--   fault_status fault          the status of a job's fault: a graph without the GKM condition has one of its own
+--   JobReport j status text     what is answered to a job that breaks a rule
+--   point_verdict c             the first comparison that fails of a certificate of one vertex, None where none does
 --   CertReport c status text    what the check of a certificate answers
---   CheckReport input status text
---                               what `check` answers
+--   GraphReport, GkmReport      what `graph` and `gkm` answer to a job
+--   CertTextReport, JobTextReport, TextReport
+--                               what a command answers to an input within the limit
+--   InputReport command input status text
+--                               what a command answers
 --   CommandReport command input status text
---                               what a command answers, and what is answered where there is none
+--                               the same, and what is answered where there is no command
 --   IsReport words input status text
 --                               what the program answers
 --   HasOneStatus                words and input have one status at most
@@ -17,21 +23,28 @@ use Rattle.std.specs.Prelude.{◌≡◌, ◌<◌, ◌≤◌, ℕ, List, Option, 
 use Rattle.clap.specs.Walk.{Text}
 use Rattle.bmp_text.specs.declared.fault.TextFault.{TextFault}
 use Rattle.bmp_text.specs.Readers.{whole}
+use Rattle.bmp_cert.specs.declared.job.Job.{Job}
 use Rattle.bmp_cert.specs.declared.cert.Cert.{Cert}
-use Rattle.bmp_cert.specs.declared.rules.JobFault.{JobFault}
+use Rattle.bmp_cert.specs.declared.job_fault.JobFault.{JobFault}
+use Rattle.bmp_cert.specs.declared.job_fault.JobFault.TheVariants.{Gkm}
+use Rattle.bmp_graph.specs.Graph.{Graph}
 use Rattle.bmp_cert.specs.CertGrammar.{cert, cert_text, IsWellFormed}
-use Rattle.bmp_cert.specs.JobRules.{KeepsRules, IsFirstFault}
+use Rattle.bmp_cert.specs.JobGrammar.{job, job_text, IsWellFormedJob}
+use Rattle.bmp_cert.specs.JobGraphs.{IsJobGraph}
+use Rattle.bmp_cert.specs.JobRules.{KeepsFirstRules, KeepsRules, IsFirstFault}
 use Rattle.bmp_cert.specs.NotBuilt.{is_not_built}
 use Rattle.bmp_check.specs.declared.refusal.Refusal.{Refusal}
 use Rattle.bmp_check.specs.Refusals.{refusal_text}
-use Rattle.bmp_check.specs.Verdicts.{verdict}
+use Rattle.bmp_check.specs.Comparisons.{first_failure}
+use Rattle.bmp_check.specs.Verdicts.{top_comparisons}
 use Rattle.bmp_report.specs.FaultLines.{text_fault_line, job_fault_line}
+use Rattle.bmp_report.specs.GraphText.{graph_text, gkm_text}
 use Rattle.bmp_report.specs.RankLines.{cert_rank_lines}
 use Rattle.bmp_program.specs.CommandLine.{asked}
 use Rattle.bmp_program.specs.declared.words.CommandWord.{CommandWord}
-use Rattle.bmp_program.specs.declared.words.CommandWord.TheVariants.{Check}
+use Rattle.bmp_program.specs.declared.words.CommandWord.TheVariants.{Check, Graph as GraphCommand, Gkm as GkmCommand}
 use Rattle.bmp_program.specs.declared.status.Status.{Status}
-use Rattle.bmp_program.specs.declared.status.Status.TheVariants.{Done, Refused, BadText, BadJob, TooLong, NotBuilt, Usage}
+use Rattle.bmp_program.specs.declared.status.Status.TheVariants.{Done, Refused, BadText, BadJob, GkmFailed, TooLong, NotBuilt, Usage}
 
 abbrev pub read_fault_line : List ℕ
 read_fault_line = codes "read fault\n"
@@ -42,35 +55,70 @@ no_memory_line = codes "no memory\n"
 abbrev pub input_limit : ℕ
 input_limit = 268435456
 
-abbrev pub IsRead : List ℕ → Type 0
-IsRead input = (length input ≤ input_limit) × (is_not_built input ≡ false)
-
 abbrev pub IsCertOf : Cert → List ℕ → Type 0
 IsCertOf c input = IsWellFormed c × (input ≡ cert_text c)
 
--- in order: the certificate's job breaks a rule, with the first; a comparison fails, with the first; all holds. Graphs of
--- one vertex have no edges, so that none fails the GKM condition
+abbrev pub IsJobOf : Job → List ℕ → Type 0
+IsJobOf j input = IsWellFormedJob j × (input ≡ job_text j)
+
+abbrev pub fault_status : JobFault → Status
+fault_status (Gkm p) = GkmFailed
+fault_status _ = BadJob
+
+-- the status and the line of the first rule that the job breaks
+abbrev pub JobReport : Job → Status → List ℕ → Type 0
+JobReport j status text = (fault : JobFault) × IsFirstFault j fault × (status ≡ fault_status fault)
+    × (text ≡ job_fault_line j.rank fault)
+
+-- of one vertex: the comparisons of the greatest vertex are all
+abbrev pub point_verdict : Cert → Option Refusal
+point_verdict c = first_failure (top_comparisons c)
+
+-- in order: the certificate's job breaks a rule, with the first; a comparison fails, with the first; all holds
 abbrev pub CertReport : Cert → Status → List ℕ → Type 0
-CertReport c BadJob text = (KeepsRules c.job → ⊥)
-    × ((fault : JobFault) × IsFirstFault c.job fault × (text ≡ job_fault_line c.job.rank fault))
+CertReport c BadJob text = JobReport c.job BadJob text
+CertReport c GkmFailed text = JobReport c.job GkmFailed text
 CertReport c Refused text =
-    KeepsRules c.job × ((refusal : Refusal) × (verdict c ≡ Some refusal) × (text ≡ refusal_text refusal))
-CertReport c Done text = KeepsRules c.job × (verdict c ≡ None) × (text ≡ cert_rank_lines c)
+    KeepsRules c.job × ((refusal : Refusal) × (point_verdict c ≡ Some refusal) × (text ≡ refusal_text refusal))
+CertReport c Done text = KeepsRules c.job × (point_verdict c ≡ None) × (text ≡ cert_rank_lines c)
 CertReport c _ text = ⊥
 
--- in order: the input is too long; it isn't read yet; it is the text of no certificate, with the first fault in reading
--- order; it is the text of one
-unfoldable pub CheckReport : List ℕ → Status → List ℕ → Type 0
-CheckReport input TooLong text = (input_limit < length input) × (text ≡ codes "input too long\n")
-CheckReport input NotBuilt text =
-    (length input ≤ input_limit) × IsTrue (is_not_built input) × (text ≡ codes "not built\n")
-CheckReport input BadText text =
-    IsRead input × ((fault : TextFault) × (whole cert input ≡ Err fault) × (text ≡ text_fault_line fault))
-CheckReport input status text = IsRead input × ((c : Cert) × IsCertOf c input × CertReport c status text)
+-- in order: the certificate isn't read yet; it is the text of none, with the first fault in reading order; it is the text of one
+abbrev pub CertTextReport : List ℕ → Status → List ℕ → Type 0
+CertTextReport input NotBuilt text = IsTrue (is_not_built input) × (text ≡ codes "not built\n")
+CertTextReport input BadText text =
+    (is_not_built input ≡ false) × ((fault : TextFault) × (whole cert input ≡ Err fault) × (text ≡ text_fault_line fault))
+CertTextReport input status text = (is_not_built input ≡ false) × ((c : Cert) × IsCertOf c input × CertReport c status text)
+
+-- the first eight rules alone decide on a graph
+abbrev pub GraphReport : Job → Status → List ℕ → Type 0
+GraphReport j BadJob text = JobReport j BadJob text
+GraphReport j Done text = KeepsFirstRules j × ((g : Graph) × (of : IsJobGraph j g) × (text ≡ graph_text of.roots of.vertices g))
+GraphReport j _ text = ⊥
+
+abbrev pub GkmReport : Job → Status → List ℕ → Type 0
+GkmReport j BadJob text = JobReport j BadJob text
+GkmReport j GkmFailed text = JobReport j GkmFailed text
+GkmReport j Done text = KeepsRules j × ((g : Graph) × IsJobGraph j g × (text ≡ gkm_text g))
+GkmReport j _ text = ⊥
+
+-- the text of no job, with the first fault in reading order, or the text of one
+abbrev pub JobTextReport : (Job → Status → List ℕ → Type 0) → List ℕ → Status → List ℕ → Type 0
+JobTextReport report input BadText text = (fault : TextFault) × (whole job input ≡ Err fault) × (text ≡ text_fault_line fault)
+JobTextReport report input status text = (j : Job) × IsJobOf j input × report j status text
+
+abbrev pub TextReport : CommandWord → List ℕ → Status → List ℕ → Type 0
+TextReport Check input status text = CertTextReport input status text
+TextReport GraphCommand input status text = JobTextReport GraphReport input status text
+TextReport GkmCommand input status text = JobTextReport GkmReport input status text
+
+unfoldable pub InputReport : CommandWord → List ℕ → Status → List ℕ → Type 0
+InputReport command input TooLong text = (input_limit < length input) × (text ≡ codes "input too long\n")
+InputReport command input status text = (length input ≤ input_limit) × TextReport command input status text
 
 abbrev pub CommandReport : Option CommandWord → List ℕ → Status → List ℕ → Type 0
 CommandReport None input status text = (status ≡ Usage) × (text ≡ codes "usage\n")
-CommandReport (Some Check) input status text = CheckReport input status text
+CommandReport (Some command) input status text = InputReport command input status text
 
 unfoldable pub IsReport : List Text → List ℕ → Status → List ℕ → Type 0
 IsReport words input status text = CommandReport (asked words) input status text

@@ -1,17 +1,16 @@
 //! The command `check`: whether the input is a certificate that holds, and its ranks.
 ghost use Rattle.std.specs.Prelude.{◌≡◌, ◌≤◌, IfOk, length};
-ghost use Rattle.bmp_ports.specs.Ports.{Rose, IsAtEnd};
 ghost use Rattle.bmp_cert.specs.CertGrammar.{IsWellFormed};
 ghost use Rattle.bmp_report.specs.RankLines.{cert_rank_lines};
-ghost use Rattle.bmp_program.specs.Reports.{CheckReport, CertReport};
-ghost use Rattle.bmp_program.specs.Runs.{IsDecided, answer_view};
+ghost use Rattle.bmp_program.specs.Reports.{CertReport, CertTextReport};
+ghost use Rattle.bmp_program.specs.Runs.{answer_view};
 
 use crate::Status;
 use crate::answer::{Answer, fixed, made};
-use bmp_cert::{Cert, CertError, Ranks, check_rules, is_not_built, read_cert};
+use crate::job_answer::fault_answer;
+use bmp_cert::{Cert, CertError, JobError, Ranks, accept_job, is_not_built, read_cert};
 use bmp_check::{check_top, refusal_line};
-use bmp_ports::{READ_LIMIT, ReadError, Source, read_all};
-use bmp_report::{job_line, ranks_text, text_line};
+use bmp_report::{ranks_text, text_line};
 use std::alloc::{AllocError, Global};
 
 // The rank lines of a certificate.
@@ -27,9 +26,13 @@ fn report_on_cert(alloc: Global, cert: &Cert) -> Result<Answer, AllocError>
     requires { IsWellFormed cert.now }
     ensures { IfOk result (λ a. CertReport cert.now (answer_view a).status (answer_view a).text) }
 {
-    if let Err(fault) = check_rules(&cert.job) {
-        let line = job_line(alloc, cert.job.rank, &fault)?;
-        return Ok(made(Status::BadJob, line));
+    match accept_job(alloc, &cert.job) {
+        Ok(_) => {}
+        Err(JobError::Fault(fault)) => {
+            let answer = fault_answer(alloc, &cert.job, &fault)?;
+            return Ok(answer);
+        }
+        Err(JobError::Memory) => return Err(AllocError),
     }
     if let Err(refusal) = check_top(cert) {
         let line = refusal_line(alloc, &refusal)?;
@@ -39,11 +42,9 @@ fn report_on_cert(alloc: Global, cert: &Cert) -> Result<Answer, AllocError>
     Ok(made(Status::Done, lines))
 }
 
-// What the check of all the input answers.
-#[tactic(auto, unfolding(crate::specs::Reports::CheckReport))]
-fn report_on(alloc: Global, input: &[u8]) -> Result<Answer, AllocError>
-    requires { length input.now ≤ READ_LIMIT }
-    ensures { IfOk result (λ a. CheckReport input.now (answer_view a).status (answer_view a).text) }
+/// What `check` answers to an input.
+pub(crate) fn report_check(alloc: Global, input: &[u8]) -> Result<Answer, AllocError>
+    ensures { IfOk result (λ a. CertTextReport input.now (answer_view a).status (answer_view a).text) }
 {
     if is_not_built(alloc, input)? {
         return Ok(fixed(Status::NotBuilt, b"not built\n"));
@@ -55,23 +56,5 @@ fn report_on(alloc: Global, input: &[u8]) -> Result<Answer, AllocError>
             Ok(made(Status::BadText, line))
         }
         Err(CertError::Memory) => Err(AllocError),
-    }
-}
-
-/// Reads the input to its end and checks it.
-#[tactic(auto, unfolding(crate::specs::Reports::CheckReport))]
-pub(crate) fn check<S: Source>(alloc: Global, source: &mut S) -> Answer
-    ensures answer { IsDecided CheckReport (S.left source.old)
-        (Rose (S.faults source.old) (S.faults source.new)) (answer_view result) }
-    ensures end { (answer_view result).status ≡ Status.Done → IsAtEnd (S.left source.new) }
-{
-    match read_all(alloc, source, READ_LIMIT) {
-        Ok(input) => match report_on(alloc, &input) {
-            Ok(answer) => answer,
-            Err(_) => fixed(Status::NoMemory, b"no memory\n"),
-        },
-        Err(ReadError::ReadFault) => fixed(Status::ReadFault, b"read fault\n"),
-        Err(ReadError::TooLong) => fixed(Status::TooLong, b"input too long\n"),
-        Err(ReadError::Memory) => fixed(Status::NoMemory, b"no memory\n"),
     }
 }

@@ -3,6 +3,8 @@
 
 mod answer;
 mod check;
+mod input;
+mod job_answer;
 pub mod laws;
 mod program;
 mod status;

@@ -2,14 +2,15 @@
 ghost use Rattle.std.specs.Prelude.{◌≡◌, ◌≢◌, ⊤, Some, None, map, string_bytes};
 ghost use Rattle.bmp_ports.specs.Ports.{Rose, IsAtEnd, Takes};
 ghost use Rattle.bmp_program.specs.CommandLine.{asked};
+ghost use Rattle.bmp_program.specs.declared.words.CommandWord.TheVariants.{Check};
 ghost use Rattle.bmp_program.specs.Headline.{IsCertified};
 ghost use Rattle.bmp_program.specs.Reports.{IsReport, read_fault_line};
 ghost use Rattle.bmp_program.specs.Runs.{IsDecided, IsReported, WritesReport, WritesPrefix, answer_view};
 
 use crate::Status;
 use crate::answer::{Answer, bytes_of, fixed};
-use crate::check::check;
-use crate::words::{CommandWord, WordsError, read_words};
+use crate::input::answer_to;
+use crate::words::{WordsError, read_words};
 use bmp_ports::{Sink, Source, WriteError, write_all};
 use std::alloc::Global;
 use std::thread::Threads;
@@ -27,9 +28,7 @@ fn decide<S: Source>(alloc: Global, words: &[String], source: &mut S) -> Answer
         Err(WordsError::Usage) => return fixed(Status::Usage, b"usage\n"),
         Err(WordsError::Memory) => return fixed(Status::NoMemory, b"no memory\n"),
     };
-    match request.command {
-        CommandWord::Check => check(alloc, source),
-    }
+    answer_to(alloc, request.command, source)
 }
 
 /// Does all that the program does: reads the words, and the input where the command reads it, and writes the text of
@@ -67,7 +66,7 @@ pub fn run<S: Source, K: Sink>(
     ensures end { result ≡ Status.Done → IsAtEnd (S.left source.new) }
 
     // The headline.
-    ensures certified { asked (map string_bytes words.now) ≡ Some CommandWord.Check → result ≡ Status.Done →
+    ensures certified { asked (map string_bytes words.now) ≡ Some Check → result ≡ Status.Done →
         IsCertified (S.left source.old) (K.taken sink.old) (K.taken sink.new) }
 {
     let _ = rt;

@@ -13,8 +13,8 @@ pub enum Status {
     BadText = 2,
     /// The certificate's job breaks a rule.
     BadJob = 3,
-    /// At a vertex of the job's moment graph two edges have proportional labels. No input has this answer as long as
-    /// only graphs of one vertex are read: they have no edges.
+    /// At a vertex of the job's moment graph two edges have parallel labels. No input has this answer as long as only
+    /// graphs of one vertex are read: they have no edges.
     GkmFailed = 4,
     /// The source failed.
     ReadFault = 5,

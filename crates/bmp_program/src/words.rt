@@ -14,6 +14,10 @@ use std::alloc::{AllocError, Global};
 pub enum CommandWord {
     /// Checks a certificate and prints the ranks.
     Check,
+    /// Prints the moment graph of a job.
+    Graph,
+    /// Says whether the moment graph of a job has the GKM condition.
+    Gkm,
 }
 
 /// Why the words ask for nothing.
@@ -108,7 +112,18 @@ fn named_command(word: &str) -> Option<CommandWord>
 {
     match word {
         "check" => Some(CommandWord::Check),
+        "graph" => Some(CommandWord::Graph),
+        "gkm" => Some(CommandWord::Gkm),
         _ => None,
+    }
+}
+
+// Whether the command may stand with a seed: none of them uses one.
+fn takes_seed(command: CommandWord) -> bool
+    ensures { result ≡ takes_seed command }
+{
+    match command {
+        CommandWord::Check | CommandWord::Graph | CommandWord::Gkm => false,
     }
 }
 
@@ -117,10 +132,11 @@ fn allowed_command(word: Option<&str>, seeded: bool) -> Option<CommandWord>
     ensures { result ≡ option_and_then (λ text. option_and_then (allowed seeded) (named text))
         (option_map (λ s. s.now) word.entry) }
 {
-    match named_command(word?) {
-        Some(CommandWord::Check) if seeded => None,
-        command => command,
+    let command = named_command(word?)?;
+    if seeded && !takes_seed(command) {
+        return None;
     }
+    Some(command)
 }
 
 // The number of workers that a word names: 1 to 32, and 1 where there is none.

@@ -1,7 +1,7 @@
 -- The lines of faults.
 --   text_fault_line f         `text line N kind K`
---   job_fault_line rank f     `job cartan diagonal I`, `job prime P` and so on; the rank is the number of
---                             coordinates of a root
+--   job_fault_line rank f     `job cartan diagonal I`, `job prime P` and so on, and `gkm vertex V edges A B`; the
+--                             rank is the number of coordinates of a root
 use Rattle.std.specs.Prelude.{◌≤◌, ℕ, ℤ, List, [], ◌∷◌, ◌++◌, take, codes}
 use Rattle.std.specs.Fmt.{decimal, signed_decimal}
 use Rattle.bmp_text.specs.declared.fault.TextFault.{TextFault}
@@ -13,8 +13,9 @@ use Rattle.bmp_roots.specs.declared.cartan_matrix.CartanFault.TheVariants.{BadRa
 use Rattle.bmp_roots.specs.declared.refusal.FiniteKind.{FiniteKind}
 use Rattle.bmp_roots.specs.declared.refusal.FiniteKind.TheVariants.{Pairs, Coordinate, Sign}
 use Rattle.bmp_roots.specs.declared.refusal.NotFinite.{NotFinite}
-use Rattle.bmp_cert.specs.declared.rules.JobFault.{JobFault}
-use Rattle.bmp_cert.specs.declared.rules.JobFault.TheVariants.{Cartan, Finite, Prime}
+use Rattle.bmp_graph.specs.declared.fault.GkmPair.{GkmPair}
+use Rattle.bmp_cert.specs.declared.job_fault.JobFault.{JobFault}
+use Rattle.bmp_cert.specs.declared.job_fault.JobFault.TheVariants.{Cartan, Finite, Prime, Letter, Reduced, TooMany, DegreeBound, TooLarge, Gkm}
 
 abbrev pub text_fault_line : TextFault → List ℕ
 text_fault_line f = codes "text line" ++ ((32 ∷ decimal f.line) ++ (codes " kind " ++ (kind_name f.kind ++ (10 ∷ []))))
@@ -37,10 +38,23 @@ coordinates_text zs = spaced_words (chain_text (λ (s : Unit {0}) z. signed_deci
 abbrev pub finite_text : ℕ → NotFinite → List ℕ
 finite_text rank e = codes "job finite " ++ (limit_name e.kind ++ coordinates_text (take rank e.root))
 
+-- a name and a number
+abbrev pub numbered_text : List ℕ → ℕ → List ℕ
+numbered_text name n = name ++ (32 ∷ decimal n)
+
+abbrev pub pair_text : GkmPair → List ℕ
+pair_text p = numbered_text (codes "gkm vertex") p.vertex ++ (numbered_text (codes " edges") p.first ++ (32 ∷ decimal p.second))
+
 abbrev pub fault_text : ℕ → JobFault → List ℕ
 fault_text rank (Cartan f) = cartan_text f
 fault_text rank (Finite e) = finite_text rank e
-fault_text rank (Prime p) = codes "job prime" ++ (32 ∷ decimal p)
+fault_text rank (Prime p) = numbered_text (codes "job prime") p
+fault_text rank (Letter e) = numbered_text (codes "job letter") e.place
+fault_text rank (Reduced n) = numbered_text (codes "job reduced") n
+fault_text rank (TooMany n) = numbered_text (codes "job vertices") n
+fault_text rank (DegreeBound d) = numbered_text (codes "job degree") d
+fault_text rank (TooLarge n) = numbered_text (codes "job size") n
+fault_text rank (Gkm p) = pair_text p
 
 abbrev pub job_fault_line : ℕ → JobFault → List ℕ
 job_fault_line rank f = fault_text rank f ++ (10 ∷ [])

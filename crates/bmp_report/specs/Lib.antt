@@ -1,2 +1,3 @@
 pub mod RankLines
 pub mod FaultLines
+pub mod GraphText

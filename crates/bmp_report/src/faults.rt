@@ -1,9 +1,10 @@
 //! The lines of faults.
 ghost use Rattle.std.specs.Prelude.{◌≡◌, ◌≤◌, ◌++◌, ◌∷◌, IfOk, OnOk};
 ghost use Rattle.std.specs.Fmt.{signed_decimal};
-ghost use Rattle.bmp_report.specs.FaultLines.{text_fault_line, cartan_text, limit_name, coordinates_text, finite_text, job_fault_line, HasCoordinates};
+ghost use Rattle.bmp_report.specs.FaultLines.{text_fault_line, cartan_text, limit_name, coordinates_text, finite_text, numbered_text, pair_text, fault_text, job_fault_line, HasCoordinates};
 
 use bmp_cert::JobFault;
+use bmp_graph::GkmPair;
 use bmp_roots::{CartanFault, FiniteKind, NotFinite};
 use bmp_text::{TextFault, push_int, push_number};
 use std::alloc::{AllocError, Global};
@@ -83,21 +84,49 @@ fn push_finite(out: &mut Vec<u8>, rank: u8, fault: &NotFinite) -> Result<(), All
     push_coordinates(out, &fault.root[..rank as usize])
 }
 
-/// The line of a job's fault, as `job cartan diagonal I` or `job prime P`. The rank is the number of
-/// coordinates of a root that breaks a limit.
+/// A name, and a number behind a space.
+pub(crate) fn push_numbered(out: &mut Vec<u8>, name: &[u8], n: u64) -> Result<(), AllocError>
+    ensures { OnOk result (out.new.items ≡ out.old.items ++ numbered_text name.now n) }
+{
+    out.extend_from_slice(name)?;
+    push_number(out, n)
+}
+
+// The vertex and the two edges.
+fn push_pair(out: &mut Vec<u8>, pair: &GkmPair) -> Result<(), AllocError>
+    ensures { OnOk result (out.new.items ≡ out.old.items ++ pair_text pair.now) }
+{
+    push_numbered(out, b"gkm vertex", u64::from(pair.vertex))?;
+    push_numbered(out, b" edges", u64::from(pair.first))?;
+    push_number(out, u64::from(pair.second))
+}
+
+// A fault without its line feed.
+fn push_fault(out: &mut Vec<u8>, rank: u8, fault: &JobFault) -> Result<(), AllocError>
+    requires { HasCoordinates rank fault.now }
+    ensures { OnOk result (out.new.items ≡ out.old.items ++ fault_text rank fault.now) }
+{
+    match fault {
+        JobFault::Cartan(fault) => push_cartan(out, fault),
+        JobFault::Finite(fault) => push_finite(out, rank, fault),
+        JobFault::Prime(prime) => push_numbered(out, b"job prime", u64::from(*prime)),
+        JobFault::Letter(letter) => push_numbered(out, b"job letter", u64::from(letter.place)),
+        JobFault::Reduced { length } => push_numbered(out, b"job reduced", u64::from(*length)),
+        JobFault::TooMany { count } => push_numbered(out, b"job vertices", u64::from(*count)),
+        JobFault::DegreeBound(degree) => push_numbered(out, b"job degree", u64::from(*degree)),
+        JobFault::TooLarge { size } => push_numbered(out, b"job size", u64::from(*size)),
+        JobFault::Gkm(pair) => push_pair(out, pair),
+    }
+}
+
+/// The line of a job's fault, as `job cartan diagonal I`, `job prime P` or `gkm vertex V edges A B`. The rank is the
+/// number of coordinates of a root that breaks a limit.
 pub fn job_line(alloc: Global, rank: u8, fault: &JobFault) -> Result<Vec<u8>, AllocError>
     requires { HasCoordinates rank fault.now }
     ensures { IfOk result (λ v. v.items ≡ job_fault_line rank fault.now) }
 {
     let mut out = Vec::new(alloc);
-    match fault {
-        JobFault::Cartan(fault) => push_cartan(&mut out, fault)?,
-        JobFault::Finite(fault) => push_finite(&mut out, rank, fault)?,
-        JobFault::Prime(prime) => {
-            out.extend_from_slice(b"job prime")?;
-            push_number(&mut out, u64::from(*prime))?;
-        }
-    }
+    push_fault(&mut out, rank, fault)?;
     out.push(b'\n')?;
     Ok(out)
 }

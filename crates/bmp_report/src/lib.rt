@@ -1,14 +1,16 @@
-//! The lines that the program prints: ranks, and the faults of texts and jobs.
+//! The lines that the program prints: ranks, graphs, and the faults of texts and jobs.
 //!
 //! Each item is one line that ends with a line feed; numbers are canonical, and words are separated by
 //! single spaces. Each call gives exactly the text that `specs/` defines.
 #![tactic(auto)]
 
 mod faults;
+mod graph;
 pub mod laws;
 mod ranks;
 
 pub use faults::{job_line, text_line};
+pub use graph::{gkm_text, graph_text};
 pub use ranks::ranks_text;
 
 #[cfg(test)]

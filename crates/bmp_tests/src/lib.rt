@@ -6,6 +6,8 @@ mod faults;
 #[cfg(test)]
 mod inputs;
 #[cfg(test)]
+mod jobs;
+#[cfg(test)]
 mod runs;
 #[cfg(test)]
 mod texts;

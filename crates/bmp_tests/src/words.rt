@@ -11,6 +11,7 @@ fn words_that_ask_for_a_check(rt: HostRuntime) -> Result<(), Fail> {
         "check --workers 1",
         "check --workers 32",
         "check --workers=2",
+        "check --workers=1",
         "--workers 2 check",
         // A number is read as `parse` reads it.
         "check --workers 01",
@@ -35,6 +36,9 @@ fn words_that_ask_for_nothing(rt: HostRuntime) -> Result<(), Fail> {
         "check --workers two",
         "check --workers 2 --workers 2",
         "check --seed 1",
+        "graph --seed 1",
+        "gkm --seed 0",
+        "gkm --workers 0",
         "check --seed",
         "check --help",
         "check --version",

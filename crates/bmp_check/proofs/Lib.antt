@@ -1,0 +1,10 @@
+pub mod BlockLemmas
+pub mod UpLemmas
+pub mod CountBounds
+pub mod SizeLemmas
+pub mod NeedLemmas
+pub mod SizeCheckLemmas
+pub mod FormLemmas
+pub mod LiftLemmas
+pub mod ShapeLemmas
+pub mod FitLemmas

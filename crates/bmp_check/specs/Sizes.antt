@@ -1,0 +1,130 @@
+-- The sizes that are compared before any number is, kind Shape. At each vertex but the greatest, and each degree, they stand in one
+-- list, along which the indices count. In the order to read:
+--   Size, is, at_most             a number of the text and the one that it has to be, or not to pass
+--   need, need_of_places          the fewest places in which a vector, or a list of places, fits
+--   cert_sheaf G c                the sheaf that the certificate writes down
+--   up_count G x                  how many edges go up from x
+--   lift_sizes G c x              each lift fits the stalk at the upper end, in its generator's degree
+--   vertex_sizes G c x            the number of edges, and the lifts
+--   counts_at G F x d             how many positions, equations, stalk and boundary coordinates there are at x and d
+--   largest n, limit              the largest of these, and the most that it may be
+--   kernel_sizes n e              the sizes of kernel evidence where these are n
+--   cover_sizes n tuples e        those of cover evidence
+--   sizes_of_block n b            those of a block
+--   block_sizes G c x d           those of the block of x and d
+--   shape_sizes G c x d           both in degree 0, the second in the others
+--   shape_comparisons G c x d     the comparisons, by index
+use Rattle.std.specs.Prelude.{ℕ, zero, suc, ◌+◌, ◌/◌, ◌%◌, ◌==◌, nat_le, max, Bool, true, false, if◌then◌else◌, List, [], ◌∷◌, ◌++◌, map, length, slice_index, slice_index_or}
+use Rattle.bmp_math.specs.Sums.{sum_below}
+use Rattle.bmp_graph.specs.Graph.{Graph, edge_count, lower, upper}
+use Rattle.bmp_linear.specs.declared.vector.Entry.{Entry}
+use Rattle.bmp_linear.specs.declared.evidence.KernelEvidence.{KernelEvidence}
+use Rattle.bmp_linear.specs.declared.evidence.CoverEvidence.{CoverEvidence}
+use Rattle.bmp_linear.specs.declared.blocks.DegreeBlock.{DegreeBlock}
+use Rattle.bmp_cover.specs.declared.kind.Kind.TheVariants.{Shape}
+use Rattle.bmp_sheaf.specs.Sheaves.{SheafData}
+use Rattle.bmp_sheaf.specs.Coordinates.{stalk_count, boundary_count}
+use Rattle.bmp_sheaf.specs.Written.{first_edge, written_sheaf}
+use Rattle.bmp_sections.specs.Positions.{position_count, equation_count}
+use Rattle.bmp_sections.specs.Numbers.{is_above}
+use Rattle.bmp_cert.specs.declared.cert.Cert.{Cert}
+use Rattle.bmp_cert.specs.Counts.{part_of}
+use Rattle.bmp_check.specs.Comparisons.{Comparison}
+use Rattle.bmp_check.specs.declared.sizes.BlockSizes.{BlockSizes}
+
+pub record Size : Type 0 where
+  pub left : ℕ
+  pub right : ℕ
+  pub exact : Bool
+
+abbrev pub is : ℕ → ℕ → Size
+is n m = record { left = n; right = m; exact = true }
+
+abbrev pub at_most : ℕ → ℕ → Size
+at_most n m = record { left = n; right = m; exact = false }
+
+-- all places are below it
+unfoldable pub need : List Entry → ℕ
+need [] = 0
+need (e ∷ es) = max (e.place + 1) (need es)
+
+unfoldable pub need_of_places : List ℕ → ℕ
+need_of_places [] = 0
+need_of_places (k ∷ ks) = max (k + 1) (need_of_places ks)
+
+abbrev pub cert_sheaf : Graph → Cert → SheafData
+cert_sheaf G c = written_sheaf G (λ x. (part_of c x).degrees) (λ x. (part_of c x).lifts)
+
+abbrev pub up_count : Graph → ℕ → ℕ
+up_count G x = sum_below (λ e. if lower G e == x then 1 else 0) (edge_count G)
+
+-- f 0, .., f (n - 1)
+abbrev pub listed : (ℕ → Size) → ℕ → List Size
+listed f zero = []
+listed f (suc n) = listed f n ++ f n ∷ []
+
+module _ (G : Graph) (c : Cert) (x : ℕ) where
+  -- lifts stand by edge and then by generator
+  abbrev pub lift_size : ℕ → Size
+  lift_size i =
+      let degrees = (part_of c x).degrees in
+      at_most (need (slice_index_or (part_of c x).lifts i []))
+      (stalk_count G.rank (part_of c (upper G (first_edge G x + i / length degrees))).degrees (slice_index degrees (i % length degrees)))
+
+  abbrev pub vertex_sizes : List Size
+  vertex_sizes = is (part_of c x).edges (up_count G x) ∷ listed lift_size (length (part_of c x).lifts)
+
+abbrev pub limit : ℕ
+limit = 4294967295
+
+abbrev pub each_at_most : List (List Entry) → ℕ → List Size
+each_at_most vs n = map (λ v. at_most (need v) n) vs
+
+abbrev pub counts_at : Graph → SheafData → ℕ → ℕ → BlockSizes
+counts_at G F x d = record {
+  positions = position_count G F (is_above G x) d;
+  equations = equation_count G F (is_above G x) d;
+  stalk = stalk_count G.rank (F.degrees x) d;
+  boundary = boundary_count G F x d;
+}
+
+abbrev pub largest : BlockSizes → ℕ
+largest n = max (max n.stalk n.boundary) (max n.positions n.equations)
+
+abbrev pub kernel_sizes : BlockSizes → KernelEvidence → List Size
+kernel_sizes n e =
+    is (length e.pivots + length e.basis) n.positions
+    ∷ (at_most (need_of_places e.pivots) n.positions
+    ∷ (each_at_most e.basis n.positions ++ each_at_most e.rows n.equations))
+
+abbrev pub cover_sizes : BlockSizes → ℕ → CoverEvidence → List Size
+cover_sizes n tuples e = each_at_most e.covers n.stalk ++ (each_at_most e.sources tuples ++ each_at_most e.duals n.boundary)
+
+abbrev pub sizes_of_block : BlockSizes → DegreeBlock → List Size
+sizes_of_block n b =
+    kernel_sizes n b.kernel ++ (cover_sizes n (length b.kernel.basis) b.cover ++ at_most (largest n) limit ∷ [])
+
+abbrev pub no_block : DegreeBlock
+no_block = record { kernel = record { pivots = []; basis = []; rows = [] }; cover = record { covers = []; sources = []; duals = [] } }
+
+abbrev pub block_of : Cert → ℕ → ℕ → DegreeBlock
+block_of c x d = slice_index_or (part_of c x).blocks d no_block
+
+abbrev pub block_sizes : Graph → Cert → ℕ → ℕ → List Size
+block_sizes G c x d = sizes_of_block (counts_at G (cert_sheaf G c) x d) (block_of c x d)
+
+abbrev pub shape_sizes : Graph → Cert → ℕ → ℕ → List Size
+shape_sizes G c x d = if d == 0 then vertex_sizes G c x ++ block_sizes G c x d else block_sizes G c x d
+
+abbrev pub size_comparison : ℕ → ℕ → ℕ → Size → Comparison
+size_comparison x d i s = record {
+  refusal = record { vertex = x; degree = d; kind = Shape; index = i; place = 0; left = s.left; right = s.right };
+  passes = if s.exact then s.left == s.right else nat_le s.left s.right;
+}
+
+abbrev pub numbered : ℕ → ℕ → ℕ → List Size → List Comparison
+numbered x d i [] = []
+numbered x d i (s ∷ ss) = size_comparison x d i s ∷ numbered x d (i + 1) ss
+
+abbrev pub shape_comparisons : Graph → Cert → ℕ → ℕ → List Comparison
+shape_comparisons G c x d = numbered x d 0 (shape_sizes G c x d)

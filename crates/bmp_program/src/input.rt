@@ -1,0 +1,42 @@
+//! A command on its input: reads it to its end and answers it.
+ghost use Rattle.std.specs.Prelude.{◌≡◌, ◌≤◌, IfOk, length};
+ghost use Rattle.bmp_ports.specs.Ports.{Rose, IsAtEnd};
+ghost use Rattle.bmp_program.specs.Reports.{TextReport, InputReport};
+ghost use Rattle.bmp_program.specs.Runs.{IsDecided, answer_view};
+
+use crate::Status;
+use crate::answer::{Answer, fixed};
+use crate::check::report_check;
+use crate::job_answer::{report_gkm, report_graph};
+use crate::words::CommandWord;
+use bmp_ports::{READ_LIMIT, ReadError, Source, read_all};
+use std::alloc::{AllocError, Global};
+
+// What a command answers to an input.
+fn report_on(alloc: Global, command: CommandWord, input: &[u8]) -> Result<Answer, AllocError>
+    requires { length input.now ≤ READ_LIMIT }
+    ensures { IfOk result (λ a. TextReport command input.now (answer_view a).status (answer_view a).text) }
+{
+    match command {
+        CommandWord::Check => report_check(alloc, input),
+        CommandWord::Graph => report_graph(alloc, input),
+        CommandWord::Gkm => report_gkm(alloc, input),
+    }
+}
+
+/// Reads the input to its end and answers it.
+pub(crate) fn answer_to<S: Source>(alloc: Global, command: CommandWord, source: &mut S) -> Answer
+    ensures answer { IsDecided (InputReport command) (S.left source.old)
+        (Rose (S.faults source.old) (S.faults source.new)) (answer_view result) }
+    ensures end { (answer_view result).status ≡ Status.Done → IsAtEnd (S.left source.new) }
+{
+    match read_all(alloc, source, READ_LIMIT) {
+        Ok(input) => match report_on(alloc, command, &input) {
+            Ok(answer) => answer,
+            Err(_) => fixed(Status::NoMemory, b"no memory\n"),
+        },
+        Err(ReadError::ReadFault) => fixed(Status::ReadFault, b"read fault\n"),
+        Err(ReadError::TooLong) => fixed(Status::TooLong, b"input too long\n"),
+        Err(ReadError::Memory) => fixed(Status::NoMemory, b"no memory\n"),
+    }
+}
