@@ -27,6 +27,18 @@ pub(crate) fn combine<F: Field, A: Rows<F>>(f: &F, a: &A, c: &Vector, sums: &mut
     }
 }
 
+/// Writes the combination `c` of the rows into the first row of the scratch. Takes no memory.
+pub fn combine_rows<F: Field, A: Rows<F>>(f: &F, a: &A, c: &Vector, s: &mut Scratch)
+    requires numbers { NumbersBelow (F.size f.now) (A.matrix a.now) }
+    requires fits { FitsBelow c.now (A.matrix a.now).rows }
+    requires values { ValuesBelow c.now (F.size f.now) }
+    requires room { (A.matrix a.now).cols ≤ length s.old.first }
+    ensures combined { IsCombined (F.size f.now) (A.matrix a.now) (number_at c.now) s.new.first }
+    ensures scratch { length s.new.first ≡ length s.old.first }
+{
+    combine(f, a, c, s.first.as_mut_slice());
+}
+
 /// Compares the combination with the target, in two rows to work in.
 fn check_columns<F: Field, A: Rows<F>>(
     f: &F,

@@ -24,7 +24,7 @@ pub mod vector;
 pub mod vectors;
 
 pub use blocks::{Blocks, DegreeBlock};
-pub use combination::check_combination;
+pub use combination::{check_combination, combine_rows};
 pub use dense::DenseRows;
 pub use dual::check_dual;
 pub use entries::{add_entries, value_of};

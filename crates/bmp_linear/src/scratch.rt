@@ -49,6 +49,20 @@ impl Scratch {
         self.first.len() as u64
     }
 
+    /// The first row.
+    pub fn first(&self) -> &[u8]
+        ensures { result.now ≡ self.now.first }
+    {
+        self.first.as_slice()
+    }
+
+    /// The second row.
+    pub fn second(&self) -> &[u8]
+        ensures { result.now ≡ self.now.second }
+    {
+        self.second.as_slice()
+    }
+
     /// The number `i` of the first row, or of the second one.
     pub fn get(&self, second: bool, i: u64) -> u8
         requires { i < length self.now.first }
