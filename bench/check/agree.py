@@ -3,13 +3,10 @@
     agree.py BMP PLAIN COUNT CERTIFICATE..
 
 Each text is one of the certificates with an entry, a line or a count changed; both programs have to end with one status and one text.
-Texts that bmp says it is not built for are counted and not compared.
 """
 import random
 import subprocess
 import sys
-
-NOT_BUILT = 10
 
 
 def changed_number(lines, pick):
@@ -87,12 +84,11 @@ def main():
     for _ in range(count):
         text = altered(pick.choice(texts), pick)
         first, second = answer([bmp, "check"], text), answer([plain], text)
-        if first[0] != NOT_BUILT and first != second:
+        if first != second:
             print("they differ on", repr(text), first, second, sep="\n")
             sys.exit(1)
         statuses[first[0]] = statuses.get(first[0], 0) + 1
-    compared = count - statuses.get(NOT_BUILT, 0)
-    print("the same answers on", compared, "of", count, "altered texts; by status:", dict(sorted(statuses.items())))
+    print("the same answers on", count, "altered texts; by status:", dict(sorted(statuses.items())))
 
 
 main()
