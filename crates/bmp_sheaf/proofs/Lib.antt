@@ -11,6 +11,7 @@ pub mod ExtensionLaws
 pub mod UnitLaws
 pub mod LiftLaws
 pub mod PartLaws
+pub mod UpEdges
 pub mod EdgeLabels
 pub mod NormalNumbers
 pub mod Components
@@ -20,6 +21,15 @@ pub mod OnEdge
 pub mod BoundaryNumbers
 pub mod EdgeMaps
 pub mod BoundaryMaps
+pub mod SameMatrices
+pub mod StalkTableLemmas
+pub mod RuleLemmas
+pub mod NewStalks
+pub mod NewModules
+pub mod NewMaps
+pub mod BoundaryWrites
+pub mod BoundaryRowLemmas
+pub mod SizeLemmas
 pub mod Agreement
 pub mod MonomialLemmas
 pub mod LiftColumns

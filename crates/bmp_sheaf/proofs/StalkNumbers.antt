@@ -8,7 +8,6 @@ use Rattle.bmp_poly.specs.Exponents.{IsMonomial, place, exponents}
 use Rattle.bmp_poly.proofs.PlaceLemmas.{place_below, exponents-place}
 use Rattle.bmp_sheaf.specs.Elements.{Element, HasComponent, SameElement}
 use Rattle.bmp_sheaf.specs.Coordinates.{component_count, stalk_count, stalk_place, element_of}
-use Rattle.bmp_sheaf.proofs.StalkPlaces.{stalk_place_below}
 use Rattle.bmp_sheaf.proofs.Components.{IsStalkPlace, stalk_place_of, inside_size}
 
 module _ (r : ℕ) (degrees : List ℕ) (d : ℕ) where

@@ -9,6 +9,10 @@ pub mod Tables
 pub mod NormalTables
 pub mod LabelTables
 pub mod EdgeMaps
+pub mod States
+pub mod StalkFaults
+pub mod StalkTables
 pub mod Terms
 pub mod EdgeModules
+pub mod Boundaries
 pub mod Statements

@@ -1,0 +1,110 @@
+//! What is kept of a stalk that is added to a sheaf.
+ghost use Rattle.std.specs.Prelude.{◌≡◌, ℕ, ◌+◌, ◌-◌, ◌*◌, ◌^◌, ◌<◌, ◌≤◌, All, length, IfOk};
+ghost use Rattle.bmp_linear.specs.SparseVectors.{ValuesBelow};
+ghost use Rattle.bmp_module.specs.FreeModules.{rank_of, degrees_of};
+ghost use Rattle.bmp_graph.specs.Graph.{vertex_count};
+ghost use Rattle.bmp_sheaf.specs.Numbers.{lower_matrix, upper_matrix};
+ghost use Rattle.bmp_sheaf.specs.States.{Stalk, next_vertex, with_stalk, sheaf_of};
+ghost use Rattle.bmp_sheaf.specs.StalkFaults.{IsStalk};
+ghost use Rattle.bmp_sheaf.specs.StalkTables.{AreModulesUp, AreMapsUp, IsStalkTable, stalk_in};
+
+use crate::edge_maps::edge_maps;
+use crate::sheaf::Sheaf;
+use crate::stalk::StalkPart;
+use bmp_field::Field;
+use bmp_linear::{SparseRows, Vector, Vectors};
+use bmp_module::{Free, Quotient};
+use std::alloc::{AllocError, Global};
+
+/// Equal vectors, as a list.
+fn copied(alloc: Global, vectors: &[Vector]) -> Result<Vectors, AllocError>
+    ensures { IfOk result (λ copy. copy ≡ vectors.now) }
+{
+    let mut copy = Vectors::with_capacity(alloc, vectors.len())?;
+    for vector in vectors {
+        copy.push(vector.copy()?)?;
+    }
+    Ok(copy)
+}
+
+/// The maps to the modules of the edges going up from a vertex, from the stalks at the lower and at the upper ends.
+#[derive(Drop)]
+struct MapsUp<F: Field> {
+    lower: Vec<SparseRows<F>>,
+    upper: Vec<SparseRows<F>>,
+}
+
+impl<F: Field> Sheaf<F> {
+    /// The modules of the edges going up from the vertex `x`, the next one.
+    fn modules_up(&self, x: u32) -> Result<Vec<Quotient>, AllocError>
+        requires left { length self.now.stalks < vertex_count self.now.graph }
+        requires next { x ≡ next_vertex self.now }
+        ensures { IfOk result (λ modules. AreModulesUp self.now x modules.items) }
+    {
+        let (first, past) = self.graph().up(x);
+        let mut modules = Vec::with_capacity(self.allocator(), (past - first) as usize)?;
+        for e in first..past {
+            let edge = self.graph().edge(e);
+            let module = Quotient::new(self.allocator(), self.stalk(edge.upper), &edge.label)?;
+            modules.push(module)?;
+        }
+        Ok(modules)
+    }
+
+    /// The maps to these modules in each degree, where the stalk `from` with these lifts comes to `x`, the next vertex.
+    fn maps_up(&self, x: u32, from: &Free, lifts: &[Vector]) -> Result<MapsUp<F>, AllocError>
+        requires left { length self.now.stalks < vertex_count self.now.graph }
+        requires next { x ≡ next_vertex self.now }
+        requires rank { rank_of from.now ≡ self.now.graph.rank }
+        requires stalk { IsStalk self.now x (degrees_of from.now) lifts.now }
+        requires values { All (λ v. ValuesBelow v self.now.graph.prime) lifts.now }
+        ensures lower { let s = with_stalk self.now (record { degrees = degrees_of from.now; lifts = lifts.now }) in
+            IfOk result (λ maps. AreMapsUp s x (lower_matrix s.graph (sheaf_of s)) maps.lower.items) }
+        ensures upper { let s = with_stalk self.now (record { degrees = degrees_of from.now; lifts = lifts.now }) in
+            IfOk result (λ maps. AreMapsUp s x (upper_matrix s.graph (sheaf_of s)) maps.upper.items) }
+    {
+        let alloc = self.allocator();
+        let generators = from.generators() as usize;
+        let (first, past) = self.graph().up(x);
+        let mut lower = Vec::new(alloc);
+        let mut upper = Vec::new(alloc);
+        for e in first..past {
+            let into = self.stalk(self.graph().edge(e).upper);
+            let start = (e - first) as usize * generators;
+            let own = &lifts[start..start + generators];
+            for d in 0..self.degree() + 1 {
+                let maps = edge_maps(alloc, self.field(), self.table(e), from, into, own, d)?;
+                lower.push(maps.lower)?;
+                upper.push(maps.upper)?;
+            }
+        }
+        Ok(MapsUp { lower, upper })
+    }
+
+    /// What is kept of the stalk with these degrees and lifts, which comes to `x`, the next vertex.
+    pub(crate) fn new_part(
+        &self,
+        x: u32,
+        degrees: &[u32],
+        lifts: &[Vector],
+    ) -> Result<StalkPart<F>, AllocError>
+        requires left { length self.now.stalks < vertex_count self.now.graph }
+        requires next { x ≡ next_vertex self.now }
+        requires few { length degrees.now < 2 ^ 32 }
+        requires stalk { IsStalk self.now x degrees.now lifts.now }
+        requires values { All (λ v. ValuesBelow v self.now.graph.prime) lifts.now }
+        ensures stalk { IfOk result (λ part. stalk_in part ≡ record { degrees = degrees.now; lifts = lifts.now }) }
+        ensures table { IfOk result (λ part. IsStalkTable (with_stalk self.now (stalk_in part)) x part) }
+    {
+        let alloc = self.allocator();
+        let module = Free::new(alloc, self.graph().rank(), degrees)?;
+        let maps = self.maps_up(x, &module, lifts)?;
+        Ok(StalkPart {
+            module,
+            lifts: copied(alloc, lifts)?,
+            edges: self.modules_up(x)?,
+            lower: maps.lower,
+            upper: maps.upper,
+        })
+    }
+}

@@ -1,0 +1,261 @@
+//! Sheaves on a moment graph, in memory.
+ghost use Rattle.std.specs.Prelude.{◌≡◌, ℕ, ◌+◌, ◌-◌, ◌*◌, ◌^◌, ◌<◌, ◌≤◌, All, List, [], ◌∷◌, ◌++◌, length, slice_index, slice_index_or, IfOk, OnOk, OnErr, IfErr};
+ghost use Rattle.bmp_math.specs.Matrices.{Matrix, NumbersBelow};
+ghost use Rattle.bmp_linear.specs.SparseVectors.{FitsBelow, ValuesBelow, number_at};
+ghost use Rattle.bmp_linear.specs.RowTables.{EntryTable, matrix_of_entries};
+ghost use Rattle.bmp_module.specs.FreeModules.{rank_of, degrees_of};
+ghost use Rattle.bmp_graph.specs.Graph.{Graph, vertex_count, edge_count, lower, upper};
+ghost use Rattle.bmp_sheaf.specs.Coordinates.{stalk_count, element_of, edge_module_count};
+ghost use Rattle.bmp_sheaf.specs.Numbers.{lower_number, upper_number, lower_matrix, upper_matrix};
+ghost use Rattle.bmp_sheaf.specs.Written.{up_count, lift_place, IsUpPlace};
+ghost use Rattle.bmp_sheaf.specs.LabelTables.{IsTableOf};
+ghost use Rattle.bmp_sheaf.specs.EdgeMaps.{SameMatrix};
+ghost use Rattle.bmp_sheaf.specs.States.{Stalk, SheafState, IsState, stalk_of, IsThere, next_vertex, sheaf_of};
+ghost use Rattle.bmp_sheaf.specs.StalkFaults.{IsStalk, BreaksFirst};
+ghost use Rattle.bmp_sheaf.specs.StalkTables.{IsEdgeModule, IsStalkTable, map_place};
+
+use crate::fault::SheafFault;
+use crate::label_tables::LabelTables;
+use crate::normal_table::NormalTable;
+use crate::stalk::StalkPart;
+use bmp_field::Field;
+use bmp_graph::MomentGraph;
+use bmp_linear::{Rows, SparseRows, Vector};
+use bmp_module::{Free, Quotient};
+use std::alloc::{AllocError, Global};
+use std::marker::Model;
+
+/// A sheaf on a moment graph, up to a degree. Its stalks come one by one, from the greatest vertex down.
+#[derive(Drop)]
+pub struct Sheaf<F: Field> {
+    graph: MomentGraph,
+    field: F,
+    degree: u32,
+    tables: LabelTables,
+    stalks: Vec<StalkPart<F>>,
+}
+
+impl<F: Field> Model for Sheaf<F> {
+    ghost use Rattle.std.specs.Prelude.{map};
+    ghost use Rattle.bmp_sheaf.specs.States.{SheafState};
+    ghost use Rattle.bmp_sheaf.specs.StalkTables.{stalk_in, IsKept};
+
+    ghost Value = { SheafState F };
+
+    ghost view = { λ s. record { graph = s.graph; field = s.field; degree = s.degree; stalks = map stalk_in s.stalks.items } };
+
+    ghost invariant = { λ s. IsKept (F.size s.field)
+        (record { graph = s.graph; field = s.field; degree = s.degree; stalks = map stalk_in s.stalks.items })
+        s.tables s.stalks.items };
+}
+
+impl<F: Field + Drop> Sheaf<F> {
+    /// The sheaf on the graph of which no stalk is there yet.
+    pub fn new(
+        alloc: Global,
+        graph: &MomentGraph,
+        f: F,
+        degree: u32,
+    ) -> Result<Sheaf<F>, AllocError>
+        requires prime { F.size f ≡ graph.now.prime }
+        requires degree { degree ≤ 6 }
+        ensures { IfOk result (λ s. s ≡ record { graph = graph.now; field = f; degree = degree; stalks = [] }) }
+    {
+        let _rank = graph.rank();
+        let stalks = Vec::with_capacity(alloc, graph.vertices() as usize)?;
+        let tables = LabelTables::new(alloc, &f, graph, degree)?;
+        Ok(Sheaf {
+            graph: graph.copy(alloc)?,
+            field: f,
+            degree,
+            tables,
+            stalks,
+        })
+    }
+}
+
+impl<F: Field> Sheaf<F> {
+    /// Adds the stalk at the greatest vertex whose stalk isn't there: a free module with generators of these degrees. The
+    /// lifts stand by edge going up from the vertex, and then by generator.
+    pub fn push_vertex(&mut self, degrees: &[u32], lifts: &[Vector]) -> Result<(), SheafFault>
+        requires left { length self.old.stalks < vertex_count self.old.graph }
+        requires few { length degrees.now < 2 ^ 32 }
+        requires values { All (λ v. ValuesBelow v self.old.graph.prime) lifts.now }
+        ensures ok { OnOk result (self.new ≡
+            record self.old { stalks = self.old.stalks ++ record { degrees = degrees.now; lifts = lifts.now } ∷ [] }) }
+        ensures stalk { OnOk result (IsStalk self.old (next_vertex self.old) degrees.now lifts.now) }
+        ensures fault { IfErr result (BreaksFirst self.old (next_vertex self.old) degrees.now lifts.now) }
+        ensures err { OnErr result (self.new ≡ self.old) }
+    {
+        let x = self.graph.vertices() - 1 - self.pushed();
+        self.check(x, degrees, lifts)?;
+        let part = self.new_part(x, degrees, lifts)?;
+        self.stalks.push(part)?;
+        Ok(())
+    }
+
+    /// How many stalks are there.
+    pub fn pushed(&self) -> u32
+        ensures count { result ≡ length self.now.stalks }
+        ensures within { result ≤ vertex_count self.now.graph }
+    {
+        self.stalks.len() as u32
+    }
+
+    /// The graph: the sheaf's own copy.
+    pub fn graph(&self) -> &MomentGraph
+        ensures graph { result.now ≡ self.now.graph }
+        ensures state { IsState self.now }
+    {
+        &self.graph
+    }
+
+    /// The field of the numbers.
+    pub fn field(&self) -> &F
+        ensures field { result.now ≡ self.now.field }
+        ensures size { F.size self.now.field ≡ self.now.graph.prime }
+    {
+        &self.field
+    }
+
+    /// The degree up to which there is a sheaf.
+    pub fn degree(&self) -> u32
+        ensures degree { result ≡ self.now.degree }
+        ensures bound { result ≤ 6 }
+    {
+        self.degree
+    }
+
+    /// What takes memory for the sheaf.
+    pub(crate) fn allocator(&self) -> Global {
+        *self.stalks.allocator()
+    }
+
+    /// The table of normal forms by the label of an edge.
+    pub(crate) fn table(&self, e: u32) -> &NormalTable
+        requires { e < edge_count self.now.graph }
+        ensures { IsTableOf self.now.graph self.now.degree e result.now }
+    {
+        self.tables.table(e)
+    }
+
+    /// What is kept of the stalk at a vertex.
+    fn part(&self, x: u32) -> &StalkPart<F>
+        requires { IsThere self.now x }
+        ensures table { IsStalkTable self.now x result.now }
+        ensures state { IsState self.now }
+    {
+        &self.stalks[(self.graph.vertices() - 1 - x) as usize]
+    }
+
+    /// The place of an edge among those that go up from its lower end.
+    fn up_place(&self, e: u32) -> u32
+        requires { e < edge_count self.now.graph }
+        ensures { IsUpPlace self.now.graph (lower self.now.graph e) e result }
+    {
+        let (first, _) = self.graph.up(self.graph.edge(e).lower);
+        e - first
+    }
+
+    /// The place of an edge's map in degree `d` among the maps that are kept with its lower end.
+    fn map_place(&self, e: u32, d: u32) -> usize
+        requires edge { e < edge_count self.now.graph }
+        requires degree { d ≤ self.now.degree }
+        ensures place { result ≡ map_place self.now.graph self.now.degree e d }
+        ensures within { result < up_count self.now.graph (lower self.now.graph e) * (self.now.degree + 1) }
+    {
+        self.up_place(e) as usize * (self.degree as usize + 1) + d as usize
+    }
+
+    /// The stalk at a vertex.
+    pub fn stalk(&self, x: u32) -> &Free
+        requires { IsThere self.now x }
+        ensures rank { rank_of result.now ≡ self.now.graph.rank }
+        ensures degrees { degrees_of result.now ≡ (stalk_of self.now x).degrees }
+        ensures stalk { IsStalk self.now x (stalk_of self.now x).degrees (stalk_of self.now x).lifts }
+        ensures state { IsState self.now }
+    {
+        let part = self.part(x);
+        &part.module
+    }
+
+    /// The module of an edge.
+    pub fn edge_module(&self, e: u32) -> &Quotient
+        requires edge { e < edge_count self.now.graph }
+        requires there { IsThere self.now (lower self.now.graph e) }
+        ensures { IsEdgeModule self.now e result.now }
+    {
+        let part = self.part(self.graph.edge(e).lower);
+        &part.edges[self.up_place(e) as usize]
+    }
+
+    /// The lift on an edge of the generator `g`, counted from 0, of its lower end.
+    pub fn lift(&self, e: u32, g: u32) -> &Vector
+        requires edge { e < edge_count self.now.graph }
+        requires there { IsThere self.now (lower self.now.graph e) }
+        requires generator { g < length (stalk_of self.now (lower self.now.graph e)).degrees }
+        ensures lift { let lifts = (stalk_of self.now (lower self.now.graph e)).lifts in
+            result.now ≡ slice_index_or lifts (lift_place self.now.graph (sheaf_of self.now).degrees e g) [] }
+        ensures element { let s = sheaf_of self.now in let G = self.now.graph in
+            s.lift e g ≡ element_of G.rank (s.degrees (upper G e)) (slice_index (s.degrees (lower G e)) g) (number_at result.now) }
+        ensures fits { let s = sheaf_of self.now in let G = self.now.graph in
+            FitsBelow result.now (stalk_count G.rank (s.degrees (upper G e)) (slice_index (s.degrees (lower G e)) g)) }
+        ensures values { ValuesBelow result.now self.now.graph.prime }
+    {
+        let part = self.part(self.graph.edge(e).lower);
+        let place = self.up_place(e) as usize * part.module.generators() as usize + g as usize;
+        &part.lifts.as_slice()[place]
+    }
+
+    /// The map from the stalk at an edge's lower end to the edge's module, in degree `d`: a row for each coordinate there.
+    pub fn lower_rows(&self, e: u32, d: u32) -> &SparseRows<F>
+        requires edge { e < edge_count self.now.graph }
+        requires there { IsThere self.now (lower self.now.graph e) }
+        requires degree { d ≤ self.now.degree }
+        ensures matrix { SameMatrix (matrix_of_entries result.now) (lower_matrix self.now.graph (sheaf_of self.now) d e) }
+        ensures numbers { NumbersBelow self.now.graph.prime (matrix_of_entries result.now) }
+        ensures state { IsState self.now }
+    {
+        let part = self.part(self.graph.edge(e).lower);
+        &part.lower[self.map_place(e, d)]
+    }
+
+    /// The same from the stalk at the edge's upper end.
+    pub fn upper_rows(&self, e: u32, d: u32) -> &SparseRows<F>
+        requires edge { e < edge_count self.now.graph }
+        requires there { IsThere self.now (lower self.now.graph e) }
+        requires degree { d ≤ self.now.degree }
+        ensures matrix { SameMatrix (matrix_of_entries result.now) (upper_matrix self.now.graph (sheaf_of self.now) d e) }
+        ensures numbers { NumbersBelow self.now.graph.prime (matrix_of_entries result.now) }
+        ensures state { IsState self.now }
+    {
+        let part = self.part(self.graph.edge(e).lower);
+        &part.upper[self.map_place(e, d)]
+    }
+
+    /// Coordinate `i` on an edge, in degree `d`, of the image of the element of its lower end that is 1 at coordinate `j`.
+    pub fn lower_at(&self, e: u32, d: u32, i: u32, j: u32) -> F::E
+        requires edge { e < edge_count self.now.graph }
+        requires there { IsThere self.now (lower self.now.graph e) }
+        requires degree { d ≤ self.now.degree }
+        requires row { i < edge_module_count self.now.graph (sheaf_of self.now) d e }
+        requires column { j < (lower_matrix self.now.graph (sheaf_of self.now) d e).cols }
+        ensures value { F.is_value self.now.field result }
+        ensures number { F.num self.now.field result ≡ lower_number self.now.graph (sheaf_of self.now) d e i j }
+    {
+        self.lower_rows(e, d).at(&self.field, i, j)
+    }
+
+    /// Coordinate `i` on an edge, in degree `d`, of the element of its upper end that is 1 at coordinate `j`.
+    pub fn upper_at(&self, e: u32, d: u32, i: u32, j: u32) -> F::E
+        requires edge { e < edge_count self.now.graph }
+        requires there { IsThere self.now (lower self.now.graph e) }
+        requires degree { d ≤ self.now.degree }
+        requires row { i < edge_module_count self.now.graph (sheaf_of self.now) d e }
+        requires column { j < (upper_matrix self.now.graph (sheaf_of self.now) d e).cols }
+        ensures value { F.is_value self.now.field result }
+        ensures number { F.num self.now.field result ≡ upper_number self.now.graph (sheaf_of self.now) d e i j }
+    {
+        self.upper_rows(e, d).at(&self.field, i, j)
+    }
+}

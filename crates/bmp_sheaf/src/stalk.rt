@@ -1,0 +1,35 @@
+//! One stalk of a sheaf in memory.
+use bmp_field::Field;
+use bmp_linear::{SparseRows, Vectors};
+use bmp_module::{Free, Quotient};
+use std::marker::Model;
+
+/// The stalk at a vertex, its lifts, and what is kept of the edges going up from it.
+#[derive(Drop)]
+pub(crate) struct StalkPart<F: Field> {
+    pub(crate) module: Free,
+    /// By edge, and then by generator.
+    pub(crate) lifts: Vectors,
+    /// By edge its module.
+    pub(crate) edges: Vec<Quotient>,
+    /// By edge, and then by degree, the map from this stalk to the edge's module.
+    pub(crate) lower: Vec<SparseRows<F>>,
+    /// By edge, and then by degree, the map from the stalk at the edge's upper end.
+    pub(crate) upper: Vec<SparseRows<F>>,
+}
+
+impl<F: Field> Model for StalkPart<F> {
+    ghost use Rattle.bmp_module.specs.FreeModules.{rank_of, degrees_of};
+    ghost use Rattle.bmp_sheaf.specs.StalkTables.{StalkTable};
+
+    ghost Value = { StalkTable };
+
+    ghost view = { λ s. record {
+      rank = rank_of s.module;
+      degrees = degrees_of s.module;
+      lifts = s.lifts;
+      edges = s.edges.items;
+      lower = s.lower.items;
+      upper = s.upper.items;
+    } };
+}
