@@ -7,4 +7,3 @@ pub mod Counts
 pub mod JobGraphs
 pub mod JobRules
 pub mod JobViews
-pub mod NotBuilt

@@ -8,7 +8,6 @@
 #![tactic(auto)]
 
 mod block;
-mod built;
 mod cert;
 mod cert_formed;
 mod cert_print;
@@ -26,7 +25,6 @@ mod ranks;
 mod rules;
 mod vector;
 
-pub use built::is_not_built;
 pub use cert::{Cert, Parts, VertexPart, read_cert};
 pub use cert_formed::{parts_formed, well_formed};
 pub use cert_print::{print_cert, push_parts};

@@ -1,7 +1,7 @@
 //! The line certificate and its altered forms, a job there and back, and ranks.
 use crate::{
-    CertError, Job, JobError, JobFault, Ranks, accept_job, is_not_built, parts_formed, prepare_job,
-    print_cert, print_job, read_cert, read_job, well_formed, well_formed_job,
+    CertError, Job, JobError, JobFault, Ranks, accept_job, parts_formed, prepare_job, print_cert,
+    print_job, read_cert, read_job, well_formed, well_formed_job,
 };
 use bmp_roots::CartanFault;
 use bmp_text::TextFault;
@@ -12,9 +12,6 @@ use std::alloc::{AllocError, Global};
 const LINE: &[u8] = b"bmp-cert 1\nrank 1\nrow 2\nprime 2\nword 1 1\ndegree 1\nvertices 2\n\
     vertex 1 1 0\nvertex 0 1 0\nedges 1\nlift 1 0 1\nblock 0 0 1\npivots\ntuple 1 0 1\n\
     cover 1 0 1\nsource 1 0 1\ndual 1 0 1\nblock 1 0 1\npivots\ntuple 1 0 1\ncover 0\nend\n";
-
-const POINT: &[u8] =
-    b"bmp-cert 1\nrank 1\nrow 2\nprime 2\nword 0\ndegree 0\nvertices 1\nvertex 0 1 0\nend\n";
 
 const JOB: &[u8] = b"bmp-job 1\nrank 2\nrow 2 -1\nrow -1 2\nprime 3\nword 2 1 2\ndegree 0\nend\n";
 
@@ -50,8 +47,6 @@ fn reads_certificates(rt: HostRuntime) -> Result<(), CertError> {
     assert_eq!(rt; well_formed(&c), true);
     let ranks = Ranks::of(rt.alloc(), &c)?;
     assert_eq!(rt; (ranks.vertices(), ranks.degree()), (2, 1));
-    assert_eq!(rt; is_not_built(rt.alloc(), LINE)?, true);
-    assert_eq!(rt; is_not_built(rt.alloc(), POINT)?, false);
     Ok(())
 }
 
