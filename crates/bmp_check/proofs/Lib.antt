@@ -1,5 +1,5 @@
 pub mod BlockLemmas
-pub mod UpLemmas
+pub mod EdgeSizes
 pub mod CountBounds
 pub mod SizeLemmas
 pub mod NeedLemmas
@@ -8,3 +8,11 @@ pub mod FormLemmas
 pub mod LiftLemmas
 pub mod ShapeLemmas
 pub mod FitLemmas
+pub mod SheafLemmas
+pub mod StalkLemmas
+pub mod InputLemmas
+pub mod RoomLemmas
+pub mod WholeLemmas
+pub mod AcceptedLemmas
+pub mod Soundness
+pub mod PassLemmas

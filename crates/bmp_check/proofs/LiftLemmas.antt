@@ -7,17 +7,17 @@ use Rattle.std.proofs.lemmas.Nat.{div_below, mod_below}
 use Rattle.bmp_linear.specs.declared.vector.Entry.{Entry}
 use Rattle.bmp_graph.specs.Graph.{Graph, IsGraph, IsUpRange, vertex_count, upper}
 use Rattle.bmp_sheaf.specs.Coordinates.{stalk_count}
-use Rattle.bmp_sheaf.specs.Written.{first_edge}
+use Rattle.bmp_sheaf.specs.Written.{first_edge, up_count}
+use Rattle.bmp_sheaf.proofs.UpEdges.{first_edge_is, up_count_is}
 use Rattle.bmp_cert.specs.declared.cert.Cert.{Cert}
 use Rattle.bmp_cert.specs.declared.cert.VertexPart.{VertexPart}
 use Rattle.bmp_cert.specs.Counts.{part_of}
 use Rattle.bmp_cert.specs.CertGrammar.{IsPart}
-use Rattle.bmp_check.specs.Sizes.{Size, is, at_most, need, listed, lift_size, up_count}
+use Rattle.bmp_check.specs.Sizes.{Size, is, at_most, need, listed, lift_size}
 use Rattle.bmp_check.specs.SizeLists.{size_in}
 use Rattle.bmp_check.specs.SizeTables.{IsReady}
 use Rattle.bmp_check.specs.declared.sizes.SizeTable.{SizeTable}
 use Rattle.bmp_check.proofs.FormLemmas.{degrees_most, part_formed}
-use Rattle.bmp_check.proofs.UpLemmas.{first_edge_is, up_count_is}
 
 -- ---- a list by numbers
 

@@ -13,12 +13,12 @@ use Rattle.bmp_linear.specs.declared.blocks.DegreeBlock.{DegreeBlock}
 use Rattle.bmp_linear.specs.SparseVectors.{IsSparse, FitsBelow, ValuesBelow}
 use Rattle.bmp_linear.specs.Evidence.{EvidenceFits, EvidenceBelow}
 use Rattle.bmp_sheaf.specs.Coordinates.{stalk_count}
-use Rattle.bmp_sheaf.specs.Written.{first_edge}
+use Rattle.bmp_sheaf.specs.Written.{first_edge, up_count}
 use Rattle.bmp_cert.specs.declared.cert.Cert.{Cert}
 use Rattle.bmp_cert.specs.Counts.{part_of, generator_count}
 use Rattle.bmp_cert.specs.CertGrammar.{IsWellFormed}
 use Rattle.bmp_check.specs.declared.sizes.BlockSizes.{BlockSizes}
-use Rattle.bmp_check.specs.Sizes.{cert_sheaf, up_count, counts_at, largest, block_of}
+use Rattle.bmp_check.specs.Sizes.{cert_sheaf, counts_at, largest, block_of}
 use Rattle.bmp_check.specs.Verdicts.{IsBlock, CountPasses, ShapePasses}
 
 pub record IsVectorIn (p n : ℕ) (v : List Entry) : Type 0 where

@@ -7,3 +7,7 @@ pub mod SizeLists
 pub mod SizeTables
 pub mod SizeChecks
 pub mod Fits
+pub mod Accepted
+pub mod Shaped
+pub mod ShapedViews
+pub mod CheckErrors

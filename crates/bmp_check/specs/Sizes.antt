@@ -3,7 +3,6 @@
 --   Size, is, at_most             a number of the text and the one that it has to be, or not to pass
 --   need, need_of_places          the fewest places in which a vector, or a list of places, fits
 --   cert_sheaf G c                the sheaf that the certificate writes down
---   up_count G x                  how many edges go up from x
 --   lift_sizes G c x              each lift fits the stalk at the upper end, in its generator's degree
 --   vertex_sizes G c x            the number of edges, and the lifts
 --   counts_at G F x d             how many positions, equations, stalk and boundary coordinates there are at x and d
@@ -15,8 +14,7 @@
 --   shape_sizes G c x d           both in degree 0, the second in the others
 --   shape_comparisons G c x d     the comparisons, by index
 use Rattle.std.specs.Prelude.{ℕ, zero, suc, ◌+◌, ◌/◌, ◌%◌, ◌==◌, nat_le, max, Bool, true, false, if◌then◌else◌, List, [], ◌∷◌, ◌++◌, map, length, slice_index, slice_index_or}
-use Rattle.bmp_math.specs.Sums.{sum_below}
-use Rattle.bmp_graph.specs.Graph.{Graph, edge_count, lower, upper}
+use Rattle.bmp_graph.specs.Graph.{Graph, upper}
 use Rattle.bmp_linear.specs.declared.vector.Entry.{Entry}
 use Rattle.bmp_linear.specs.declared.evidence.KernelEvidence.{KernelEvidence}
 use Rattle.bmp_linear.specs.declared.evidence.CoverEvidence.{CoverEvidence}
@@ -24,7 +22,7 @@ use Rattle.bmp_linear.specs.declared.blocks.DegreeBlock.{DegreeBlock}
 use Rattle.bmp_cover.specs.declared.kind.Kind.TheVariants.{Shape}
 use Rattle.bmp_sheaf.specs.Sheaves.{SheafData}
 use Rattle.bmp_sheaf.specs.Coordinates.{stalk_count, boundary_count}
-use Rattle.bmp_sheaf.specs.Written.{first_edge, written_sheaf}
+use Rattle.bmp_sheaf.specs.Written.{first_edge, up_count, written_sheaf}
 use Rattle.bmp_sections.specs.Positions.{position_count, equation_count}
 use Rattle.bmp_sections.specs.Numbers.{is_above}
 use Rattle.bmp_cert.specs.declared.cert.Cert.{Cert}
@@ -54,9 +52,6 @@ need_of_places (k ∷ ks) = max (k + 1) (need_of_places ks)
 
 abbrev pub cert_sheaf : Graph → Cert → SheafData
 cert_sheaf G c = written_sheaf G (λ x. (part_of c x).degrees) (λ x. (part_of c x).lifts)
-
-abbrev pub up_count : Graph → ℕ → ℕ
-up_count G x = sum_below (λ e. if lower G e == x then 1 else 0) (edge_count G)
 
 -- f 0, .., f (n - 1)
 abbrev pub listed : (ℕ → Size) → ℕ → List Size

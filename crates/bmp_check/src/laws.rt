@@ -1,4 +1,5 @@
 //! The laws of what is checked, for every certificate.
+ghost use Rattle.bmp_check.specs.Accepted.{PassedIsBradenMacPherson, PassedCountsAreDimensions, NoneFailsBesidePasses};
 ghost use Rattle.bmp_check.specs.BlockOrder.{BlocksAreNumbered};
 ghost use Rattle.bmp_check.specs.Fits.{ShapeGivesFits};
 
@@ -11,4 +12,20 @@ pub fn blocks_are_numbered()
 /// stalks above it.
 pub fn shape_gives_fits()
     ensures { ShapeGivesFits }
+{}
+
+/// Where no comparison of a certificate fails, its sheaf is a Braden-MacPherson sheaf of the moment graph of its job, up to the
+/// degree of the job (Braden-MacPherson 2001; Fiebig-Williamson).
+pub fn passed_is_braden_macpherson()
+    ensures { PassedIsBradenMacPherson }
+{}
+
+/// Its numbers of generators are then dimensions, at each vertex and in each degree up to that of the job.
+pub fn passed_counts_are_dimensions()
+    ensures { PassedCountsAreDimensions }
+{}
+
+/// Where no comparison fails, none is the first that fails.
+pub fn none_fails_beside_passes()
+    ensures { NoneFailsBesidePasses }
 {}

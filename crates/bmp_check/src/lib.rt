@@ -3,27 +3,37 @@
 //! The verdict on a certificate is the first comparison that fails, with its numbers, or none
 //! (`specs/Verdicts`). First come the number of vertices ([`check_count`]) and the sizes of all blocks
 //! ([`check_shape`]), by a table that is made once ([`SizeTable`]); then the greatest vertex ([`check_top`]).
-//! Blocks go by falling vertex and then by rising degree ([`block_at`]).
+//! Blocks go by falling vertex and then by rising degree ([`block_at`]), each by [`check_block`]. [`check`] does all.
 #![tactic(auto)]
 
+mod block;
 mod blocks;
 mod counts;
 pub mod laws;
 mod need;
 mod part;
 mod refusal;
-mod shape;
+mod scratch;
+mod shape_pass;
 mod shape_sizes;
+mod shaped;
 mod size_check;
 mod size_rows;
 mod sizes;
 #[cfg(test)]
 mod tests;
 mod top;
+mod whole;
+mod written;
 
+pub use block::check_block;
 pub use blocks::{block_at, block_count};
 pub use refusal::{CheckError, Refusal, refusal_line};
-pub use shape::{check_count, check_shape};
+pub use scratch::{BlockScratch, scratch_for};
+pub use shape_pass::{check_count, check_shape};
+pub use shaped::Shaped;
 pub use size_rows::SizeRows;
 pub use sizes::{BlockSizes, SizeTable};
 pub use top::check_top;
+pub use whole::check;
+pub use written::shape;

@@ -28,6 +28,26 @@ pub enum CheckError {
     Memory,
 }
 
+impl From<AllocError> for CheckError {
+    ghost use Rattle.bmp_check.specs.declared.refusal.CheckError.TheVariants.{Memory};
+
+    ghost from_gives = { λ _ e. e ≡ Memory };
+
+    fn from(_: AllocError) -> Self {
+        CheckError::Memory
+    }
+}
+
+impl From<Refusal> for CheckError {
+    ghost use Rattle.bmp_check.specs.declared.refusal.CheckError.TheVariants.{Refused};
+
+    ghost from_gives = { λ r e. e ≡ Refused r };
+
+    fn from(refusal: Refusal) -> Self {
+        CheckError::Refused(refusal)
+    }
+}
+
 // A name and a number, each behind a space.
 fn push_named(out: &mut Vec<u8>, name: &[u8], n: u64) -> Result<(), AllocError>
     ensures { OnOk result (out.new.items ≡ out.old.items ++ (32 ∷ name.now ++ (32 ∷ decimal n))) }

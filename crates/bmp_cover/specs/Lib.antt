@@ -5,3 +5,5 @@ pub mod Laws
 pub mod Examples
 pub mod Kinds
 pub mod CoverChecks
+pub mod CoverInputs
+pub mod Differences

@@ -2,10 +2,13 @@
 use Rattle.std.proofs.Common.{◌≡◌, ℕ, List, Option, Some, None, sym, subst, ◌∙◌}
 use Rattle.clap.specs.Walk.{Text}
 use Rattle.bmp_ports.specs.Ports.{Takes}
+use Rattle.bmp_graph.specs.Graph.{Graph}
 use Rattle.bmp_text.proofs.Pairs.{whole_same}
 use Rattle.bmp_cert.proofs.CertPairs.{cert_pair}
 use Rattle.bmp_cert.specs.declared.cert.Cert.{Cert}
 use Rattle.bmp_cert.specs.CertGrammar.{cert, cert_text, IsWellFormed}
+use Rattle.bmp_check.specs.Accepted.{IsAccepted}
+use Rattle.bmp_check.proofs.Soundness.{passed_is_braden_macpherson, passed_counts_are_dimensions}
 use Rattle.bmp_report.specs.RankLines.{cert_rank_lines}
 use Rattle.bmp_program.specs.CommandLine.{asked}
 use Rattle.bmp_program.specs.Reports.{InputReport, CommandReport, IsReport}
@@ -17,19 +20,29 @@ use Rattle.bmp_program.specs.declared.status.Status.{Status}
 use Rattle.bmp_program.specs.declared.status.Status.TheVariants.{Done}
 
 -- the certificate of a report with status 0
-certified : (input text : List ℕ) → InputReport Check input Done text → (c : Cert) × Certifies c input × (text ≡ cert_rank_lines c)
+abbrev Certified : List ℕ → List ℕ → Type 0
+Certified input text = (c : Cert) × ((G : Graph) × Certifies c G input × (text ≡ cert_rank_lines c))
+
+certified : (input text : List ℕ) → InputReport Check input Done text → Certified input text
 unfolding InputReport
-certified input text (fits, body) =
-    let found = body.1 in (
-      found.0,
-      record {
-        well_formed = found.1.0;
-        is_text = found.1.1;
-        only = λ d formed of_d. whole_same cert cert_text IsWellFormed cert_pair d found.0 formed found.1.0 (sym of_d ∙ found.1.1);
-        rules = found.2.0;
-        holds = found.2.1;
-      },
-      found.2.2,
+certified input text (fits, found) =
+    let c = found.0 in let report = found.2 in let G = report.1.0 in
+    let accepted : IsAccepted G c = record { formed = found.1.0; rules = report.0; graph = report.1.1 } in (
+      c,
+      (
+        G,
+        record {
+          well_formed = found.1.0;
+          is_text = found.1.1;
+          only = λ d formed of_d. whole_same cert cert_text IsWellFormed cert_pair d c formed found.1.0 (sym of_d ∙ found.1.1);
+          rules = report.0;
+          graph = report.1.1;
+          holds = report.1.2;
+          sheaf = passed_is_braden_macpherson G c accepted report.1.2;
+          dimensions = passed_counts_are_dimensions G c accepted report.1.2;
+        },
+        report.1.3,
+      ),
     )
 
 check_report : (words : List Text) (input text : List ℕ) (status : Status) → asked words ≡ Some Check → status ≡ Done → IsReport words input status text → InputReport Check input Done text
@@ -42,10 +55,13 @@ check_report words input text status asks done report =
 written : (left before after : Option (List ℕ)) (input text : List ℕ) → Holds left input → InputReport Check input Done text → Takes before after text → IsCertified left before after
 written None before after input text held report takes = tt
 written (Some left) before after input text held report takes =
-    let found : (c : Cert) × Certifies c input × (text ≡ cert_rank_lines c) = certified input text report in (
+    let found : Certified input text = certified input text report in (
       found.0,
-      subst (λ (bytes : List ℕ). Certifies found.0 bytes) (sym held) found.1,
-      subst (λ (lines : List ℕ). Takes before after lines) found.2 takes,
+      (
+        found.1.0,
+        subst (λ (bytes : List ℕ). Certifies found.0 found.1.0 bytes) (sym held) found.1.1,
+        subst (λ (lines : List ℕ). Takes before after lines) found.1.2 takes,
+      ),
     )
 
 pub headline : (words : List Text) (left : Option (List ℕ)) (rose : Type 0) (answer : Report) (before after : Option (List ℕ)) → IsDecided (IsReport words) left rose answer → Takes before after answer.text → asked words ≡ Some Check → answer.status ≡ Done → IsCertified left before after

@@ -2,3 +2,4 @@ pub mod ReportLemmas
 pub mod HeadlineLemmas
 pub mod StatusLemmas
 pub mod JobAnswerLemmas
+pub mod CheckAnswerLemmas

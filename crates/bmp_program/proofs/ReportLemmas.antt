@@ -8,7 +8,7 @@ use Rattle.bmp_program.specs.Runs.{Report, Holds, Reports, DecidedBy, IsDecided}
 use Rattle.bmp_program.specs.declared.words.CommandWord.{CommandWord}
 use Rattle.bmp_program.specs.declared.words.CommandWord.TheVariants.{Check, Graph, Gkm}
 use Rattle.bmp_program.specs.declared.status.Status.{Status}
-use Rattle.bmp_program.specs.declared.status.Status.TheVariants.{Done, Refused, BadText, BadJob, GkmFailed, ReadFault, WriteFault, NoMemory, TooLong, NotBuilt, Usage}
+use Rattle.bmp_program.specs.declared.status.Status.TheVariants.{Done, Refused, BadText, BadJob, GkmFailed, ReadFault, WriteFault, NoMemory, TooLong, Usage}
 
 -- all that is left came
 pub whole_held : (left after : Option (List ℕ)) (input : List ℕ) → Passes left after input → IsAtEnd after → Holds left input
@@ -40,25 +40,25 @@ NotOfText s = (command : CommandWord) (input text : List ℕ) → TextReport com
 
 not_too_long : NotOfText TooLong
 unfolding NotOfText
-not_too_long Check input text is = is.1.2
+not_too_long Check input text is = is.2
 not_too_long Graph input text is = is.2
 not_too_long Gkm input text is = is.2
 
 not_read_fault : NotOfText ReadFault
 unfolding NotOfText
-not_read_fault Check input text is = is.1.2
+not_read_fault Check input text is = is.2
 not_read_fault Graph input text is = is.2
 not_read_fault Gkm input text is = is.2
 
 not_write_fault : NotOfText WriteFault
 unfolding NotOfText
-not_write_fault Check input text is = is.1.2
+not_write_fault Check input text is = is.2
 not_write_fault Graph input text is = is.2
 not_write_fault Gkm input text is = is.2
 
 not_no_memory : NotOfText NoMemory
 unfolding NotOfText
-not_no_memory Check input text is = is.1.2
+not_no_memory Check input text is = is.2
 not_no_memory Graph input text is = is.2
 not_no_memory Gkm input text is = is.2
 
@@ -74,7 +74,6 @@ text_decided ReadFault command left rose input text held fits is = absurd (not_r
 text_decided WriteFault command left rose input text held fits is = absurd (not_write_fault command input text is)
 text_decided NoMemory command left rose input text held fits is = absurd (not_no_memory command input text is)
 text_decided TooLong command left rose input text held fits is = absurd (not_too_long command input text is)
-text_decided NotBuilt command left rose input text held fits is = (input, held, (fits, is))
 text_decided Usage command left rose input text held fits is = (input, held, (fits, is))
 
 pub report_decided : (command : CommandWord) (left : Option (List ℕ)) (rose : Type 0) (answer : Report) (input : List ℕ) → Holds left input → length input ≤ input_limit → TextReport command input answer.status answer.text → IsDecided (InputReport command) left rose answer

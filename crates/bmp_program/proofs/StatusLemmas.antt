@@ -1,9 +1,11 @@
 -- Words and input have one status at most.
-use Rattle.std.proofs.Common.{◌≡◌, ◌<◌, ◌≤◌, ◌⊎◌, false, inl, inr, ℕ, List, Option, Some, None, Ok, Err, IsTrue, refl, sym, subst, ◌∙◌, arith, length}
+use Rattle.std.proofs.Common.{◌≡◌, ◌<◌, ◌≤◌, ◌⊎◌, inl, inr, ℕ, List, Option, Some, None, Ok, Err, refl, sym, subst, ◌∙◌, arith, length}
+use Rattle.bmp_graph.specs.Graph.{Graph}
 use Rattle.bmp_text.specs.declared.fault.TextFault.{TextFault}
 use Rattle.bmp_text.specs.Readers.{whole}
 use Rattle.bmp_text.proofs.Pairs.{whole_again}
 use Rattle.bmp_cert.proofs.CertPairs.{cert_pair}
+use Rattle.bmp_cert.proofs.GraphLemmas.{one_graph}
 use Rattle.bmp_cert.proofs.RuleLemmas.{breaks_first_rules}
 use Rattle.bmp_cert.specs.declared.job.Job.{Job}
 use Rattle.bmp_cert.specs.declared.job_fault.JobFault.{JobFault}
@@ -12,15 +14,17 @@ use Rattle.bmp_cert.specs.declared.cert.Cert.{Cert}
 use Rattle.bmp_cert.proofs.JobPairs.{job_pair}
 use Rattle.bmp_cert.specs.JobGrammar.{job, job_text, IsWellFormedJob}
 use Rattle.bmp_cert.specs.CertGrammar.{cert, cert_text, IsWellFormed}
+use Rattle.bmp_cert.specs.JobGraphs.{IsJobGraph}
 use Rattle.bmp_cert.specs.JobRules.{HasGkmGraph, KeepsFirstRules, KeepsRules, IsFirstFault}
-use Rattle.bmp_cert.specs.NotBuilt.{is_not_built}
+use Rattle.bmp_check.proofs.PassLemmas.{none_fails}
+use Rattle.bmp_check.specs.Verdicts.{Passes, IsFirstRefusal}
 use Rattle.bmp_check.specs.declared.refusal.Refusal.{Refusal}
 use Rattle.bmp_program.specs.CommandLine.{asked}
-use Rattle.bmp_program.specs.Reports.{input_limit, IsCertOf, IsJobOf, fault_status, point_verdict, CertReport, GraphReport, GkmReport, CertTextReport, JobTextReport, TextReport, InputReport, CommandReport, IsReport, HasOneStatus}
+use Rattle.bmp_program.specs.Reports.{input_limit, IsCertOf, IsJobOf, fault_status, CertReport, GraphReport, GkmReport, CertTextReport, JobTextReport, TextReport, InputReport, CommandReport, IsReport, HasOneStatus}
 use Rattle.bmp_program.specs.declared.words.CommandWord.{CommandWord}
 use Rattle.bmp_program.specs.declared.words.CommandWord.TheVariants.{Check, Graph as GraphCommand, Gkm as GkmCommand}
 use Rattle.bmp_program.specs.declared.status.Status.{Status}
-use Rattle.bmp_program.specs.declared.status.Status.TheVariants.{Done, Refused, BadText, BadJob, GkmFailed, ReadFault, WriteFault, NoMemory, TooLong, NotBuilt, Usage}
+use Rattle.bmp_program.specs.declared.status.Status.TheVariants.{Done, Refused, BadText, BadJob, GkmFailed, ReadFault, WriteFault, NoMemory, TooLong, Usage}
 
 -- the text of a certificate is read as that certificate
 read_as : (c : Cert) (input : List ℕ) → IsCertOf c input → whole cert input ≡ Ok c
@@ -56,23 +60,35 @@ one_job_case j s t (inl a) (inr b) = absurd (a.1 b.1)
 one_job_case j s t (inr a) (inl b) = absurd (b.1 a.1)
 one_job_case j s t (inr a) (inr b) = a.0 ∙ sym b.0
 
+-- on some graph of the job no comparison fails, or one fails first
+abbrev CertPasses : Cert → Type 0
+CertPasses c = (G : Graph) × IsJobGraph c.job G × Passes G c
+
+abbrev CertFails : Cert → Type 0
+CertFails c = (G : Graph) × IsJobGraph c.job G × ((refusal : Refusal) × IsFirstRefusal G c refusal)
+
+-- not both, since the graph of a job is one
+not_both : (c : Cert) → CertPasses c → CertFails c → ⊥
+not_both c (G, of_G, passes) (H, of_H, fails) =
+    let same : G ≡ H = one_graph c.job G H of_G of_H in
+    none_fails H c fails.0 (subst (λ (K : Graph). Passes K c) same passes) fails.1
+
 CertCase : Cert → Status → Type 0
 CertCase c s = JobCase c.job s
-    ⊎ (((s ≡ Refused) × KeepsRules c.job × ((r : Refusal) × (point_verdict c ≡ Some r)))
-    ⊎ ((s ≡ Done) × KeepsRules c.job × (point_verdict c ≡ None)))
+    ⊎ (((s ≡ Refused) × KeepsRules c.job × CertFails c)
+    ⊎ ((s ≡ Done) × KeepsRules c.job × CertPasses c))
 
 cert_case : (c : Cert) (s : Status) (text : List ℕ) → CertReport c s text → CertCase c s
 unfolding CertCase
 cert_case c BadJob text is = inl (job_case c.job BadJob is.0 is.1 is.2)
 cert_case c GkmFailed text is = inl (job_case c.job GkmFailed is.0 is.1 is.2)
-cert_case c Refused text is = inr (inl (refl, is.0, (is.1.0, is.1.1)))
-cert_case c Done text is = inr (inr (refl, is.0, is.1))
+cert_case c Refused text is = let found = is.1 in inr (inl (refl, is.0, (found.0, found.1, (found.2.0, found.2.1))))
+cert_case c Done text is = let found = is.1 in inr (inr (refl, is.0, (found.0, found.1, found.2)))
 cert_case c BadText text is = absurd is
 cert_case c ReadFault text is = absurd is
 cert_case c WriteFault text is = absurd is
 cert_case c NoMemory text is = absurd is
 cert_case c TooLong text is = absurd is
-cert_case c NotBuilt text is = absurd is
 cert_case c Usage text is = absurd is
 
 one_cert_case : (c : Cert) (s t : Status) → CertCase c s → CertCase c t → s ≡ t
@@ -82,27 +98,24 @@ one_cert_case c s t (inl a) (inr (inl b)) = absurd (job_breaks c.job s a b.1)
 one_cert_case c s t (inl a) (inr (inr b)) = absurd (job_breaks c.job s a b.1)
 one_cert_case c s t (inr (inl a)) (inl b) = absurd (job_breaks c.job t b a.1)
 one_cert_case c s t (inr (inl a)) (inr (inl b)) = a.0 ∙ sym b.0
-one_cert_case c s t (inr (inl a)) (inr (inr b)) = let p = a.2.1 in let q = b.2 in cc
+one_cert_case c s t (inr (inl a)) (inr (inr b)) = absurd (not_both c b.2 a.2)
 one_cert_case c s t (inr (inr a)) (inl b) = absurd (job_breaks c.job t b a.1)
-one_cert_case c s t (inr (inr a)) (inr (inl b)) = let p = b.2.1 in let q = a.2 in cc
+one_cert_case c s t (inr (inr a)) (inr (inl b)) = absurd (not_both c a.2 b.2)
 one_cert_case c s t (inr (inr a)) (inr (inr b)) = a.0 ∙ sym b.0
 
 -- ---- the cases of a certificate's text
 
 CertTextCase : List ℕ → Status → Type 0
-CertTextCase input s = ((s ≡ NotBuilt) × IsTrue (is_not_built input))
-    ⊎ (((s ≡ BadText) × (is_not_built input ≡ false) × ((f : TextFault) × (whole cert input ≡ Err f)))
-    ⊎ ((is_not_built input ≡ false) × ((c : Cert) × (whole cert input ≡ Ok c) × CertCase c s)))
+CertTextCase input s = ((s ≡ BadText) × ((f : TextFault) × (whole cert input ≡ Err f)))
+    ⊎ ((c : Cert) × (whole cert input ≡ Ok c) × CertCase c s)
 
-at_cert : (input : List ℕ) (s : Status) (text : List ℕ) → ((is_not_built input ≡ false) × ((c : Cert) × IsCertOf c input × CertReport c s text)) → CertTextCase input s
+at_cert : (input : List ℕ) (s : Status) (text : List ℕ) → ((c : Cert) × IsCertOf c input × CertReport c s text) → CertTextCase input s
 unfolding CertTextCase
-at_cert input s text (read, found) =
-    inr (inr (read, (found.0, read_as found.0 input found.1, cert_case found.0 s text found.2)))
+at_cert input s text found = inr (found.0, read_as found.0 input found.1, cert_case found.0 s text found.2)
 
 cert_text_case : (input : List ℕ) (s : Status) (text : List ℕ) → CertTextReport input s text → CertTextCase input s
 unfolding CertTextCase
-cert_text_case input NotBuilt text is = inl (refl, is.0)
-cert_text_case input BadText text is = inr (inl (refl, is.0, (is.1.0, is.1.1)))
+cert_text_case input BadText text is = inl (refl, (is.0, is.1))
 cert_text_case input TooLong text is = at_cert input TooLong text is
 cert_text_case input BadJob text is = at_cert input BadJob text is
 cert_text_case input Refused text is = at_cert input Refused text is
@@ -121,14 +134,9 @@ same_cert input c d s t of_c of_d p q =
 one_cert_text_case : (input : List ℕ) (s t : Status) → CertTextCase input s → CertTextCase input t → s ≡ t
 unfolding CertTextCase
 one_cert_text_case input s t (inl a) (inl b) = a.0 ∙ sym b.0
-one_cert_text_case input s t (inl a) (inr (inl b)) = let p = a.1 in let q = b.1 in cc
-one_cert_text_case input s t (inl a) (inr (inr b)) = let p = a.1 in let q = b.0 in cc
-one_cert_text_case input s t (inr (inl a)) (inl b) = let p = b.1 in let q = a.1 in cc
-one_cert_text_case input s t (inr (inl a)) (inr (inl b)) = a.0 ∙ sym b.0
-one_cert_text_case input s t (inr (inl a)) (inr (inr b)) = let p = a.2.1 in let q = b.1.1 in cc
-one_cert_text_case input s t (inr (inr a)) (inl b) = let p = b.1 in let q = a.0 in cc
-one_cert_text_case input s t (inr (inr a)) (inr (inl b)) = let p = b.2.1 in let q = a.1.1 in cc
-one_cert_text_case input s t (inr (inr a)) (inr (inr b)) = same_cert input a.1.0 b.1.0 s t a.1.1 b.1.1 a.1.2 b.1.2
+one_cert_text_case input s t (inl a) (inr b) = let p = a.1.1 in let q = b.1 in cc
+one_cert_text_case input s t (inr a) (inl b) = let p = b.1.1 in let q = a.1 in cc
+one_cert_text_case input s t (inr a) (inr b) = same_cert input a.0 b.0 s t a.1 b.1 a.2 b.2
 
 -- ---- the cases of a job's text
 
@@ -163,7 +171,6 @@ graph_case j ReadFault text is = absurd is
 graph_case j WriteFault text is = absurd is
 graph_case j NoMemory text is = absurd is
 graph_case j TooLong text is = absurd is
-graph_case j NotBuilt text is = absurd is
 graph_case j Usage text is = absurd is
 
 gkm_case : (j : Job) (s : Status) (text : List ℕ) → GkmReport j s text → Decides KeepsRules j s
@@ -177,7 +184,6 @@ gkm_case j ReadFault text is = absurd is
 gkm_case j WriteFault text is = absurd is
 gkm_case j NoMemory text is = absurd is
 gkm_case j TooLong text is = absurd is
-gkm_case j NotBuilt text is = absurd is
 gkm_case j Usage text is = absurd is
 
 JobTextCase : (Job → Type 0) → List ℕ → Status → Type 0
@@ -192,7 +198,6 @@ module _ (report : Job → Status → List ℕ → Type 0) (Kept : Job → Type 
   job_text_case : (s : Status) → JobTextReport report input s text → JobTextCase Kept input s
   unfolding JobTextCase
   job_text_case BadText is = inl (refl, (is.0, is.1))
-  job_text_case NotBuilt is = at_job NotBuilt is
   job_text_case TooLong is = at_job TooLong is
   job_text_case BadJob is = at_job BadJob is
   job_text_case Refused is = at_job Refused is
@@ -231,7 +236,6 @@ InputCase command input s text = ((s ≡ TooLong) × (input_limit < length input
 input_case : (command : CommandWord) (input : List ℕ) (s : Status) (text : List ℕ) → InputReport command input s text → InputCase command input s text
 unfolding InputReport InputCase
 input_case command input TooLong text is = inl (refl, is.0)
-input_case command input NotBuilt text is = inr is
 input_case command input BadText text is = inr is
 input_case command input BadJob text is = inr is
 input_case command input Refused text is = inr is

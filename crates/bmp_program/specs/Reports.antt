@@ -7,8 +7,7 @@
 --                               c, or j, is well formed, and the input is its text
 --   fault_status fault          the status of a job's fault: a graph without the GKM condition has one of its own
 --   JobReport j status text     what is answered to a job that breaks a rule
---   point_verdict c             the first comparison that fails of a certificate of one vertex, None where none does
---   CertReport c status text    what the check of a certificate answers
+--   CertReport c status text    what the check of a certificate answers: that its job breaks a rule, that a comparison fails, or its ranks
 --   GraphReport, GkmReport      what `graph` and `gkm` answer to a job
 --   CertTextReport, JobTextReport, TextReport
 --                               what a command answers to an input within the limit
@@ -19,7 +18,7 @@
 --   IsReport words input status text
 --                               what the program answers
 --   HasOneStatus                words and input have one status at most
-use Rattle.std.specs.Prelude.{◌≡◌, ◌<◌, ◌≤◌, ℕ, List, Option, Some, None, Err, IsTrue, false, codes, length}
+use Rattle.std.specs.Prelude.{◌≡◌, ◌<◌, ◌≤◌, ℕ, List, Option, Some, None, Err, codes, length}
 use Rattle.clap.specs.Walk.{Text}
 use Rattle.bmp_text.specs.declared.fault.TextFault.{TextFault}
 use Rattle.bmp_text.specs.Readers.{whole}
@@ -32,11 +31,9 @@ use Rattle.bmp_cert.specs.CertGrammar.{cert, cert_text, IsWellFormed}
 use Rattle.bmp_cert.specs.JobGrammar.{job, job_text, IsWellFormedJob}
 use Rattle.bmp_cert.specs.JobGraphs.{IsJobGraph}
 use Rattle.bmp_cert.specs.JobRules.{KeepsFirstRules, KeepsRules, IsFirstFault}
-use Rattle.bmp_cert.specs.NotBuilt.{is_not_built}
 use Rattle.bmp_check.specs.declared.refusal.Refusal.{Refusal}
 use Rattle.bmp_check.specs.Refusals.{refusal_text}
-use Rattle.bmp_check.specs.Comparisons.{first_failure}
-use Rattle.bmp_check.specs.Verdicts.{top_comparisons}
+use Rattle.bmp_check.specs.Verdicts.{Passes, IsFirstRefusal}
 use Rattle.bmp_report.specs.FaultLines.{text_fault_line, job_fault_line}
 use Rattle.bmp_report.specs.GraphText.{graph_text, gkm_text}
 use Rattle.bmp_report.specs.RankLines.{cert_rank_lines}
@@ -44,7 +41,7 @@ use Rattle.bmp_program.specs.CommandLine.{asked}
 use Rattle.bmp_program.specs.declared.words.CommandWord.{CommandWord}
 use Rattle.bmp_program.specs.declared.words.CommandWord.TheVariants.{Check, Graph as GraphCommand, Gkm as GkmCommand}
 use Rattle.bmp_program.specs.declared.status.Status.{Status}
-use Rattle.bmp_program.specs.declared.status.Status.TheVariants.{Done, Refused, BadText, BadJob, GkmFailed, TooLong, NotBuilt, Usage}
+use Rattle.bmp_program.specs.declared.status.Status.TheVariants.{Done, Refused, BadText, BadJob, GkmFailed, TooLong, Usage}
 
 abbrev pub read_fault_line : List ℕ
 read_fault_line = codes "read fault\n"
@@ -70,25 +67,19 @@ abbrev pub JobReport : Job → Status → List ℕ → Type 0
 JobReport j status text = (fault : JobFault) × IsFirstFault j fault × (status ≡ fault_status fault)
     × (text ≡ job_fault_line j.rank fault)
 
--- of one vertex: the comparisons of the greatest vertex are all
-abbrev pub point_verdict : Cert → Option Refusal
-point_verdict c = first_failure (top_comparisons c)
-
--- in order: the certificate's job breaks a rule, with the first; a comparison fails, with the first; all holds
+-- in order: the certificate's job breaks a rule, with the first; a comparison on the job's graph fails, with the first; none fails
 abbrev pub CertReport : Cert → Status → List ℕ → Type 0
 CertReport c BadJob text = JobReport c.job BadJob text
 CertReport c GkmFailed text = JobReport c.job GkmFailed text
 CertReport c Refused text =
-    KeepsRules c.job × ((refusal : Refusal) × (point_verdict c ≡ Some refusal) × (text ≡ refusal_text refusal))
-CertReport c Done text = KeepsRules c.job × (point_verdict c ≡ None) × (text ≡ cert_rank_lines c)
+    KeepsRules c.job × ((G : Graph) × IsJobGraph c.job G × ((refusal : Refusal) × IsFirstRefusal G c refusal × (text ≡ refusal_text refusal)))
+CertReport c Done text = KeepsRules c.job × ((G : Graph) × IsJobGraph c.job G × Passes G c × (text ≡ cert_rank_lines c))
 CertReport c _ text = ⊥
 
--- in order: the certificate isn't read yet; it is the text of none, with the first fault in reading order; it is the text of one
+-- the text of no certificate, with the first fault in reading order, or the text of one
 abbrev pub CertTextReport : List ℕ → Status → List ℕ → Type 0
-CertTextReport input NotBuilt text = IsTrue (is_not_built input) × (text ≡ codes "not built\n")
-CertTextReport input BadText text =
-    (is_not_built input ≡ false) × ((fault : TextFault) × (whole cert input ≡ Err fault) × (text ≡ text_fault_line fault))
-CertTextReport input status text = (is_not_built input ≡ false) × ((c : Cert) × IsCertOf c input × CertReport c status text)
+CertTextReport input BadText text = (fault : TextFault) × (whole cert input ≡ Err fault) × (text ≡ text_fault_line fault)
+CertTextReport input status text = (c : Cert) × IsCertOf c input × CertReport c status text
 
 -- the first eight rules alone decide on a graph
 abbrev pub GraphReport : Job → Status → List ℕ → Type 0

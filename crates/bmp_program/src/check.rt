@@ -1,56 +1,78 @@
 //! The command `check`: whether the input is a certificate that holds, and its ranks.
-ghost use Rattle.std.specs.Prelude.{◌≡◌, ◌≤◌, IfOk, length};
+ghost use Rattle.std.specs.Prelude.{◌≤◌, IfOk};
 ghost use Rattle.bmp_cert.specs.CertGrammar.{IsWellFormed};
-ghost use Rattle.bmp_report.specs.RankLines.{cert_rank_lines};
+ghost use Rattle.bmp_cert.specs.JobViews.{graph_of, prepared_of};
+ghost use Rattle.bmp_check.specs.Accepted.{IsAccepted};
 ghost use Rattle.bmp_program.specs.Reports.{CertReport, CertTextReport};
 ghost use Rattle.bmp_program.specs.Runs.{answer_view};
 
 use crate::Status;
-use crate::answer::{Answer, fixed, made};
+use crate::answer::{Answer, made};
 use crate::job_answer::fault_answer;
-use bmp_cert::{Cert, CertError, JobError, Ranks, accept_job, is_not_built, read_cert};
-use bmp_check::{check_top, refusal_line};
+use bmp_cert::{Accepted, Cert, CertError, JobError, accept_job, read_cert};
+use bmp_check::{CheckError, check, refusal_line};
 use bmp_report::{ranks_text, text_line};
 use std::alloc::{AllocError, Global};
+use std::thread::Threads;
 
-// The rank lines of a certificate.
-fn rank_lines(alloc: Global, cert: &Cert) -> Result<Vec<u8>, AllocError>
-    ensures { IfOk result (λ v. v.items ≡ cert_rank_lines cert.now) }
+// What the comparisons of a certificate answer whose job is the accepted one.
+fn verdict_on(
+    rt: &(impl Threads + Sync),
+    alloc: Global,
+    accepted: &Accepted,
+    cert: &Cert,
+    workers: u32,
+) -> Result<Answer, AllocError>
+    requires accepted { IsAccepted (graph_of (prepared_of accepted.now)) cert.now }
+    requires workers { (1 ≤ workers) × (workers ≤ 32) }
+    ensures { IfOk result (λ a. CertReport cert.now (answer_view a).status (answer_view a).text) }
 {
-    let ranks = Ranks::of(alloc, cert)?;
-    ranks_text(alloc, &ranks)
+    match check(rt, alloc, accepted, cert, workers) {
+        Ok(ranks) => {
+            let lines = ranks_text(alloc, &ranks)?;
+            Ok(made(Status::Done, lines))
+        }
+        Err(CheckError::Refused(refusal)) => {
+            let line = refusal_line(alloc, &refusal)?;
+            Ok(made(Status::Refused, line))
+        }
+        Err(CheckError::Memory) => Err(AllocError),
+    }
 }
 
 // What the check of a certificate answers.
-fn report_on_cert(alloc: Global, cert: &Cert) -> Result<Answer, AllocError>
-    requires { IsWellFormed cert.now }
+fn report_on_cert(
+    rt: &(impl Threads + Sync),
+    alloc: Global,
+    cert: &Cert,
+    workers: u32,
+) -> Result<Answer, AllocError>
+    requires formed { IsWellFormed cert.now }
+    requires workers { (1 ≤ workers) × (workers ≤ 32) }
     ensures { IfOk result (λ a. CertReport cert.now (answer_view a).status (answer_view a).text) }
 {
     match accept_job(alloc, &cert.job) {
-        Ok(_) => {}
+        Ok(accepted) => verdict_on(rt, alloc, &accepted, cert, workers),
         Err(JobError::Fault(fault)) => {
             let answer = fault_answer(alloc, &cert.job, &fault)?;
-            return Ok(answer);
+            Ok(answer)
         }
-        Err(JobError::Memory) => return Err(AllocError),
+        Err(JobError::Memory) => Err(AllocError),
     }
-    if let Err(refusal) = check_top(cert) {
-        let line = refusal_line(alloc, &refusal)?;
-        return Ok(made(Status::Refused, line));
-    }
-    let lines = rank_lines(alloc, cert)?;
-    Ok(made(Status::Done, lines))
 }
 
-/// What `check` answers to an input.
-pub(crate) fn report_check(alloc: Global, input: &[u8]) -> Result<Answer, AllocError>
+/// What `check` answers to an input, by so many workers.
+pub(crate) fn report_check(
+    rt: &(impl Threads + Sync),
+    alloc: Global,
+    input: &[u8],
+    workers: u32,
+) -> Result<Answer, AllocError>
+    requires { (1 ≤ workers) × (workers ≤ 32) }
     ensures { IfOk result (λ a. CertTextReport input.now (answer_view a).status (answer_view a).text) }
 {
-    if is_not_built(alloc, input)? {
-        return Ok(fixed(Status::NotBuilt, b"not built\n"));
-    }
     match read_cert(alloc, input) {
-        Ok(cert) => report_on_cert(alloc, &cert),
+        Ok(cert) => report_on_cert(rt, alloc, &cert, workers),
         Err(CertError::Text(fault)) => {
             let line = text_line(alloc, &fault)?;
             Ok(made(Status::BadText, line))

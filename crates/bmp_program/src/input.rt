@@ -8,30 +8,44 @@ use crate::Status;
 use crate::answer::{Answer, fixed};
 use crate::check::report_check;
 use crate::job_answer::{report_gkm, report_graph};
-use crate::words::CommandWord;
+use crate::words::{CommandWord, Request};
 use bmp_ports::{READ_LIMIT, ReadError, Source, read_all};
 use std::alloc::{AllocError, Global};
+use std::thread::Threads;
 
-// What a command answers to an input.
-fn report_on(alloc: Global, command: CommandWord, input: &[u8]) -> Result<Answer, AllocError>
-    requires { length input.now ≤ READ_LIMIT }
-    ensures { IfOk result (λ a. TextReport command input.now (answer_view a).status (answer_view a).text) }
+// What a request answers to an input.
+fn report_on(
+    rt: &(impl Threads + Sync),
+    alloc: Global,
+    request: Request,
+    input: &[u8],
+) -> Result<Answer, AllocError>
+    requires limit { length input.now ≤ READ_LIMIT }
+    requires workers { (1 ≤ request.workers) × (request.workers ≤ 32) }
+    ensures { IfOk result (λ a.
+        TextReport request.command input.now (answer_view a).status (answer_view a).text) }
 {
-    match command {
-        CommandWord::Check => report_check(alloc, input),
+    match request.command {
+        CommandWord::Check => report_check(rt, alloc, input, request.workers),
         CommandWord::Graph => report_graph(alloc, input),
         CommandWord::Gkm => report_gkm(alloc, input),
     }
 }
 
 /// Reads the input to its end and answers it.
-pub(crate) fn answer_to<S: Source>(alloc: Global, command: CommandWord, source: &mut S) -> Answer
-    ensures answer { IsDecided (InputReport command) (S.left source.old)
+pub(crate) fn answer_to<S: Source>(
+    rt: &(impl Threads + Sync),
+    alloc: Global,
+    request: Request,
+    source: &mut S,
+) -> Answer
+    requires { (1 ≤ request.workers) × (request.workers ≤ 32) }
+    ensures answer { IsDecided (InputReport request.command) (S.left source.old)
         (Rose (S.faults source.old) (S.faults source.new)) (answer_view result) }
     ensures end { (answer_view result).status ≡ Status.Done → IsAtEnd (S.left source.new) }
 {
     match read_all(alloc, source, READ_LIMIT) {
-        Ok(input) => match report_on(alloc, command, &input) {
+        Ok(input) => match report_on(rt, alloc, request, &input) {
             Ok(answer) => answer,
             Err(_) => fixed(Status::NoMemory, b"no memory\n"),
         },

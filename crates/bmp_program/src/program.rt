@@ -17,7 +17,12 @@ use std::thread::Threads;
 
 // What the words and the input are answered with.
 #[tactic(auto, unfolding(crate::specs::Reports::IsReport))]
-fn decide<S: Source>(alloc: Global, words: &[String], source: &mut S) -> Answer
+fn decide<S: Source>(
+    rt: &(impl Threads + Sync),
+    alloc: Global,
+    words: &[String],
+    source: &mut S,
+) -> Answer
     ensures answer { IsDecided (IsReport (map string_bytes words.now)) (S.left source.old)
         (Rose (S.faults source.old) (S.faults source.new)) (answer_view result) }
     ensures end { (answer_view result).status ≡ Status.Done → IsAtEnd (S.left source.new) }
@@ -28,7 +33,7 @@ fn decide<S: Source>(alloc: Global, words: &[String], source: &mut S) -> Answer
         Err(WordsError::Usage) => return fixed(Status::Usage, b"usage\n"),
         Err(WordsError::Memory) => return fixed(Status::NoMemory, b"no memory\n"),
     };
-    answer_to(alloc, request.command, source)
+    answer_to(rt, alloc, request, source)
 }
 
 /// Does all that the program does: reads the words, and the input where the command reads it, and writes the text of
@@ -69,8 +74,7 @@ pub fn run<S: Source, K: Sink>(
     ensures certified { asked (map string_bytes words.now) ≡ Some Check → result ≡ Status.Done →
         IsCertified (S.left source.old) (K.taken sink.old) (K.taken sink.new) }
 {
-    let _ = rt;
-    let answer = decide(alloc, words, source);
+    let answer = decide(rt, alloc, words, source);
     match write_all(sink, bytes_of(&answer)) {
         Ok(()) => answer.status,
         Err(WriteError::Failed) if answer.status != Status::NoMemory => Status::WriteFault,

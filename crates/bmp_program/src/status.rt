@@ -1,8 +1,8 @@
 //! How a run ended.
 
 /// How a run of the program ended, with the number that the process ends with. Where several would fit, the one that
-/// comes first in this order counts: `Usage`, `ReadFault`, `TooLong`, `NotBuilt`, `BadText`, `BadJob`, `GkmFailed`,
-/// `Refused`, and last `WriteFault`. `NoMemory` may come anywhere.
+/// comes first in this order counts: `Usage`, `ReadFault`, `TooLong`, `BadText`, `BadJob`, `GkmFailed`, `Refused`,
+/// and last `WriteFault`. `NoMemory` may come anywhere.
 #[derive(Clone, Copy, Debug, PartialEq, Eq)]
 pub enum Status {
     /// All was done and written.
@@ -13,8 +13,7 @@ pub enum Status {
     BadText = 2,
     /// The certificate's job breaks a rule.
     BadJob = 3,
-    /// At a vertex of the job's moment graph two edges have parallel labels. No input has this answer as long as only
-    /// graphs of one vertex are read: they have no edges.
+    /// At a vertex of the job's moment graph two edges have parallel labels.
     GkmFailed = 4,
     /// The source failed.
     ReadFault = 5,
@@ -24,8 +23,6 @@ pub enum Status {
     NoMemory = 7,
     /// The input is longer than the limit.
     TooLong = 8,
-    /// The certificate is one that the check doesn't read yet.
-    NotBuilt = 10,
     /// The words are no command of the program.
     Usage = 64,
 }

@@ -1,5 +1,5 @@
 -- The test of what is above a vertex; and the equations over an upward closed set, counted by their edges' lower ends.
-use Rattle.std.proofs.Common.{◌≡◌, ℕ, zero, suc, ◌+◌, ◌-◌, ◌<◌, ◌≤◌, ◌⊎◌, ◌&&◌, ◌||◌, Bool, true, false, cond, eqb, true≢false, refl, sym, ap, ap₂, ◌∙◌, inl, inr, arith, eq-eqb, ne_eqb, eqb-true}
+use Rattle.std.proofs.Common.{◌≡◌, ◌↔◌, ℕ, zero, suc, ◌+◌, ◌-◌, ◌<◌, ◌≤◌, ◌⊎◌, ◌&&◌, ◌||◌, Bool, true, false, cond, eqb, true≢false, refl, sym, ap, ap₂, subst, ◌∙◌, inl, inr, arith, eq-eqb, ne_eqb, eqb-true}
 use Rattle.std.proofs.lemmas.Bool.{cases_eq, cases_Bool, or_cases, or_left, or_right, and_parts, and_from, and_left, cond-true, cond-false}
 use Rattle.bmp_math.specs.Sums.{sum_below}
 use Rattle.bmp_math.proofs.SumLemmas.{sum_below_same, sum_below-zeros, sum_below-swap, sum_below_joined, sum_below_only, sum_below-suc}
@@ -78,6 +78,14 @@ module _ (G : Graph) where
   upper_is_above is x e below low =
       test_from_above is x (upper G e)
       (IsAbove-trans G (upper G e) (lower G e) x (edge e below refl) (above_from_test x (lower G e) low))
+
+-- what answers whether a vertex is above x is the test
+pub test_is : (G H : Graph) → IsGraph G → H ≡ G → (x y : ℕ) (b : Bool) → ((b ≡ true) ↔ IsAbove H y x) → is_above G x y ≡ b
+test_is G H is same x y true answers = test_from_above G is x y (subst (λ g. IsAbove g y x) same (answers.0 refl))
+test_is G H is same x y false answers = elim (cases_Bool (is_above G x y)) [
+  | inl here ↦ absurd (true≢false (sym (answers.1 (subst (λ g. IsAbove g y x) (sym same) (above_from_test G x y here)))))
+  | inr out ↦ out
+]
 
 pub above_is_tested : AboveIsTested
 above_is_tested G is x y below = (above_from_test G x y, test_from_above G is x y)

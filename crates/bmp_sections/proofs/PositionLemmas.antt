@@ -29,7 +29,7 @@ module _ (G : Graph) (F : SheafData) (U : ℕ → Bool) (d : ℕ) where
   abbrev SameAt : ℕ → Element → Element → Type 0
   SameAt y u v = SameElement G.prime G.rank (F.degrees y) d u v
 
-  size_is : (y : ℕ) → U y ≡ true → position_size y ≡ stalk_count G.rank (F.degrees y) d
+  pub size_is : (y : ℕ) → U y ≡ true → position_size y ≡ stalk_count G.rank (F.degrees y) d
   size_is y here = cond-true {A = ℕ} (U y) (stalk_count G.rank (F.degrees y) d) 0 here
 
   -- a vertex with positions is in the set

@@ -1,6 +1,6 @@
-//! Inputs of `check`: what is read, refused and not read yet, and the first fault of each.
+//! Inputs of `check` with one vertex: what is read and what is refused, and the first fault of each.
 use crate::runs::{assert_run, with_line};
-use crate::texts::{LINE, POINT};
+use crate::texts::POINT;
 use bmp_program::Status;
 use std::alloc::Global;
 use std::process::Abort;
@@ -10,18 +10,6 @@ use std::thread::Threads;
 #[test]
 fn a_point_has_one_generator(rt: HostRuntime) -> Result<(), Fail> {
     assert_run(&rt, rt.alloc(), "check", POINT, Status::Done, "rank 0 1\n")
-}
-
-#[test]
-fn a_line_is_not_read_yet(rt: HostRuntime) -> Result<(), Fail> {
-    assert_run(
-        &rt,
-        rt.alloc(),
-        "check",
-        LINE,
-        Status::NotBuilt,
-        "not built\n",
-    )
 }
 
 // Asserts how the check of the point ends, with another line at one place, and what it writes.
@@ -66,21 +54,6 @@ fn changed_jobs_have_their_fault(rt: HostRuntime) -> Result<(), Fail> {
         (4, "prime 4", "job prime 4\n"),
     ] {
         assert_changed(&rt, rt.alloc(), place, line, Status::BadJob, written)?;
-    }
-    Ok(())
-}
-
-#[test]
-fn other_than_a_point_is_not_read_yet(rt: HostRuntime) -> Result<(), Fail> {
-    for (place, line) in [(5, "word 1 1"), (6, "degree 1"), (7, "vertices 2")] {
-        assert_changed(
-            &rt,
-            rt.alloc(),
-            place,
-            line,
-            Status::NotBuilt,
-            "not built\n",
-        )?;
     }
     Ok(())
 }

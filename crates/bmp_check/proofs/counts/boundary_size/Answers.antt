@@ -1,7 +1,8 @@
 use Rattle.std.proofs.Common.{◌≡◌, ◌+◌, sym, ap, ap₂, ◌∙◌, arith}
 use Rattle.bmp_sheaf.specs.Coordinates.{boundary_start}
+use Rattle.bmp_sheaf.proofs.UpEdges.{boundary_starts, boundary_goes_on, boundary_ends, up_few}
 use Rattle.bmp_check.specs.Sizes.{cert_sheaf}
-use Rattle.bmp_check.proofs.UpLemmas.{boundary_starts, boundary_goes_on, boundary_ends, up_few, edge_size}
+use Rattle.bmp_check.proofs.EdgeSizes.{edge_size}
 use Rattle.bmp_check.proofs.counts.boundary_size.Goals as goal
 
 pub edges-init : goal.edges-init

@@ -2,7 +2,8 @@ use Rattle.std.proofs.Common.{◌≡◌, ◌≤◌, ◌∙◌, [], ◌∷◌, le
 use Rattle.std.proofs.lemmas.Result.{err_from_is_err_and}
 use Rattle.bmp_cert.specs.declared.cert.VertexPart.{VertexPart}
 use Rattle.bmp_cert.specs.Counts.{part_of}
-use Rattle.bmp_check.specs.Sizes.{is, at_most, listed, lift_size, up_count, vertex_sizes}
+use Rattle.bmp_sheaf.specs.Written.{up_count}
+use Rattle.bmp_check.specs.Sizes.{is, at_most, listed, lift_size, vertex_sizes}
 use Rattle.bmp_check.specs.SizeChecks.{first_of}
 use Rattle.bmp_check.proofs.LiftLemmas.{LiftAt, StandsIn, lift_here, lift_stands, edges_as, length-listed}
 use Rattle.bmp_check.proofs.SizeCheckLemmas.{Passed, exit_compares, goes_on, stops, passed_all, passed_more, failed_at, then_passed}

@@ -2,7 +2,7 @@ use Rattle.bmp_program.specs.Runs.{answer_view}
 use Rattle.bmp_program.proofs.JobAnswerLemmas.{cert_fault}
 use Rattle.bmp_program.proofs.check.report_on_cert.Goals as goal
 
-pub returns-in-Err-Fault : goal.returns-in-Err-Fault
-returns-in-Err-Fault c =
+pub returns-in_ok-answer-in-Err-Fault : goal.returns-in_ok-answer-in-Err-Fault
+returns-in_ok-answer-in-Err-Fault g c =
     let a = answer_view c.in_ok-answer-in-Err-Fault.answer in
     cert_fault c.args.cert.now a.status a.text c.in_ok-answer-in-Err-Fault.ensures.report

@@ -8,15 +8,15 @@ use Rattle.bmp_program.proofs.input.answer_to.Goals as goal
 pub returns-in-Ok-report_on-clause-answer : goal.returns-in-Ok-report_on-clause-answer
 returns-in-Ok-report_on-clause-answer g c =
     let a = answer_view c.in-Ok-report_on.answer in
-    report_decided c.args.command (g.S.Source.left c.args.source.now)
+    report_decided c.args.request.command (g.S.Source.left c.args.source.now)
     (Rose (g.S.Source.faults c.args.source.now) (g.S.Source.faults c.read_all.new.source)) a c.in-Ok.input.items
     (whole_held (g.S.Source.left c.args.source.now) (g.S.Source.left c.read_all.new.source) c.in-Ok.input.items c.in-Ok.ensures.all c.in-Ok.ensures.end)
     c.in-Ok.ensures.within
-    (subst (λ i. TextReport c.args.command i a.status a.text) c.deref.ensures.value c.in-Ok-report_on.ensures)
+    (subst (λ i. TextReport c.args.request.command i a.status a.text) c.deref.ensures.value c.in-Ok-report_on.ensures)
 
 pub returns-in-Err-TooLong-clause-answer : goal.returns-in-Err-TooLong-clause-answer
 returns-in-Err-TooLong-clause-answer g c =
-    long_decided c.args.command (g.S.Source.left c.args.source.now) (g.S.Source.left c.read_all.new.source)
+    long_decided c.args.request.command (g.S.Source.left c.args.source.now) (g.S.Source.left c.read_all.new.source)
     (Rose (g.S.Source.faults c.args.source.now) (g.S.Source.faults c.read_all.new.source))
     (answer_view c.fixed-in-Err-TooLong.result) c.fixed-in-Err-TooLong.ensures
     (c.in-Err-TooLong.ensures.too_long (ap Err c.in-Err-TooLong.field-0-is))

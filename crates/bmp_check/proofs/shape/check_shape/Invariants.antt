@@ -1,7 +1,0 @@
-use Rattle.bmp_check.specs.Verdicts.{ShapePassesAt}
-use Rattle.bmp_check.proofs.BlockLemmas.{HoldsBefore}
-use Rattle.bmp_check.proofs.shape.check_shape.Given as goal
-
--- the blocks so far pass
-abbrev pub invariant-each : goal.invariant-each
-invariant-each l = HoldsBefore (ShapePassesAt l.graph l.c) l.vertices l.degree l.i

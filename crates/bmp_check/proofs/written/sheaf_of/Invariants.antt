@@ -1,0 +1,6 @@
+use Rattle.bmp_check.proofs.StalkLemmas.{IsSheafUpTo}
+use Rattle.bmp_check.proofs.written.sheaf_of.Given as goal
+
+-- the stalks so far
+abbrev pub invariant-parts : goal.invariant-parts
+invariant-parts l = IsSheafUpTo l.graph l.c l.i l.sheaf

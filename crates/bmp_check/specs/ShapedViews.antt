@@ -1,0 +1,29 @@
+-- What a certificate in memory whose sizes all fit is about. In the order to read:
+--   graph_in s     the moment graph of its job
+--   cert_in s      the certificate
+--   sizes_in s     the table of its sizes
+--   sheaf_in s     the sheaf
+--   IsWhole s      the certificate is accepted, the number of its vertices and all sizes pass, and the table and the sheaf are its own
+use Rattle.bmp_field.specs.declared.prime.PrimeField.{PrimeField}
+use Rattle.bmp_graph.specs.Graph.{Graph}
+use Rattle.bmp_sheaf.specs.States.{SheafState}
+use Rattle.bmp_cert.specs.declared.cert.Cert.{Cert}
+use Rattle.bmp_cert.specs.JobViews.{graph_of, prepared_of}
+use Rattle.bmp_check.specs.declared.shaped.Shaped.{Shaped}
+use Rattle.bmp_check.specs.declared.sizes.SizeTable.{SizeTable}
+use Rattle.bmp_check.specs.Shaped.{IsShaped}
+
+abbrev pub graph_in : Shaped → Graph
+graph_in s = graph_of (prepared_of s.accepted.now)
+
+abbrev pub cert_in : Shaped → Cert
+cert_in s = s.cert.now
+
+abbrev pub sizes_in : Shaped → SizeTable
+sizes_in s = s.sizes
+
+abbrev pub sheaf_in : Shaped → SheafState PrimeField
+sheaf_in s = s.sheaf
+
+abbrev pub IsWhole : Shaped → Type 0
+IsWhole s = IsShaped (graph_in s) (cert_in s) (sizes_in s) (sheaf_in s)

@@ -1,0 +1,74 @@
+//! Room to work in for the check of blocks.
+ghost use Rattle.std.specs.Prelude.{◌≡◌, ℕ, ◌≤◌, ◌<◌, IfOk};
+ghost use Rattle.bmp_graph.specs.Graph.{vertex_count};
+ghost use Rattle.bmp_sheaf.specs.Coordinates.{stalk_count, boundary_count};
+ghost use Rattle.bmp_check.specs.Shaped.{IsRoomFor};
+ghost use Rattle.bmp_check.specs.ShapedViews.{graph_in, cert_in, IsWhole};
+ghost use Rattle.bmp_check.specs.Sizes.{cert_sheaf, counts_at, largest};
+ghost use Rattle.bmp_check.specs.Verdicts.{IsBlock};
+
+use crate::blocks::{block_at, block_count};
+use crate::shaped::Shaped;
+use bmp_linear::Scratch;
+use bmp_sections::SectionIndex;
+use std::alloc::{AllocError, Global};
+
+/// Room for the check of any block of a certificate: where its positions and equations stand, and two rows of numbers.
+#[derive(Debug, Drop)]
+pub struct BlockScratch {
+    pub index: SectionIndex,
+    pub numbers: Scratch,
+}
+
+/// The most equations of a block, and the largest of all sizes of blocks.
+fn block_room(s: &Shaped) -> (u64, u64)
+    requires { IsWhole s.now }
+    ensures equations { let G = graph_in s.now in let c = cert_in s.now in
+        (x d : ℕ) → IsBlock G c x d → (counts_at G (cert_sheaf G c) x d).equations ≤ result.0 }
+    ensures sizes { let G = graph_in s.now in let c = cert_in s.now in
+        (x d : ℕ) → IsBlock G c x d → largest (counts_at G (cert_sheaf G c) x d) ≤ result.1 }
+{
+    let graph = s.graph();
+    let vertices = graph.vertices();
+    let degree = s.sheaf().degree();
+    let table = s.sizes();
+    let mut equations = 0;
+    let mut most = 0;
+    'each: for i in 0..block_count(vertices, degree) {
+        let (x, d) = block_at(vertices, degree, i);
+        let sizes = table.block(graph, x, d);
+        equations = sizes.equations.max(equations);
+        most = sizes.largest().max(most);
+    }
+    (equations, most)
+}
+
+/// The most coordinates of a stalk or of a boundary, in any degree.
+fn coordinate_room(s: &Shaped) -> u64
+    requires { IsWhole s.now }
+    ensures stalks { let G = graph_in s.now in let c = cert_in s.now in
+        (x d : ℕ) → x < vertex_count G → d ≤ c.job.degree → stalk_count G.rank ((cert_sheaf G c).degrees x) d ≤ result }
+    ensures boundaries { let G = graph_in s.now in let c = cert_in s.now in
+        (x d : ℕ) → x < vertex_count G → d ≤ c.job.degree → boundary_count G (cert_sheaf G c) x d ≤ result }
+{
+    let sheaf = s.sheaf();
+    let degree = sheaf.degree();
+    let mut most = 0;
+    'degrees: for d in 0..degree + 1 {
+        most = sheaf.scratch_len(d).max(most);
+    }
+    most
+}
+
+/// What any block of the certificate needs: as many numbers as the largest of all sizes.
+pub fn scratch_for(alloc: Global, s: &Shaped) -> Result<BlockScratch, AllocError>
+    requires { IsWhole s.now }
+    ensures { IfOk result (IsRoomFor (graph_in s.now) (cert_in s.now)) }
+{
+    let (equations, largest) = block_room(s);
+    let numbers = coordinate_room(s).max(largest);
+    Ok(BlockScratch {
+        index: SectionIndex::new(alloc, s.graph().vertices(), equations)?,
+        numbers: Scratch::new(alloc, numbers)?,
+    })
+}
