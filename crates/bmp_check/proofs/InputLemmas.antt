@@ -1,25 +1,22 @@
 -- What the checks of a block are given, and what they answer, of the sheaf in memory and of the written one.
-use Rattle.std.proofs.Common.{◌≡◌, ◌≢◌, ℕ, ◌+◌, ◌-◌, ◌<◌, ◌≤◌, ◌⊎◌, ◌^◌, Bool, true, false, cond, ltb, max, List, [], length, get_or, refl, sym, ap, ap₂, subst, ◌∙◌, inl, inr, arith}
+use Rattle.std.proofs.Common.{◌≡◌, ℕ, ◌+◌, ◌<◌, ◌≤◌, ◌^◌, max, List, [], length, get_or, refl, sym, ap, ap₂, subst, ◌∙◌, arith}
 use Rattle.std.specs.List.{All}
-use Rattle.std.proofs.lemmas.Bool.{cond-true, cond-false, lt-ltb, le-ltb}
 use Rattle.std.proofs.lemmas.List.Elements.{All-weaker, All-get_or}
 use Rattle.bmp_math.specs.Matrices.{Matrix, NumbersBelow}
 use Rattle.bmp_linear.specs.declared.vector.Entry.{Entry}
-use Rattle.bmp_linear.specs.declared.fault.RowFault.{RowFault}
 use Rattle.bmp_linear.specs.declared.evidence.KernelEvidence.{KernelEvidence}
 use Rattle.bmp_linear.specs.declared.evidence.CoverEvidence.{CoverEvidence}
 use Rattle.bmp_linear.specs.declared.blocks.DegreeBlock.{DegreeBlock}
 use Rattle.bmp_linear.specs.SparseVectors.{FitsBelow, ValuesBelow}
 use Rattle.bmp_linear.specs.Evidence.{EvidenceFits, EvidenceBelow}
-use Rattle.bmp_linear.specs.Faults.{AllPass, IsFirstFailure}
 use Rattle.bmp_linear.proofs.SparseLemmas.{number_at-below}
 use Rattle.bmp_graph.specs.Graph.{Graph, vertex_count}
 use Rattle.bmp_sheaf.specs.Fields.{IsOverField}
 use Rattle.bmp_sheaf.specs.Sheaves.{SheafData}
 use Rattle.bmp_sheaf.specs.Coordinates.{stalk_count, boundary_count}
-use Rattle.bmp_sheaf.specs.States.{SheafState, IsThere, IsState, IsRoom, sheaf_of}
+use Rattle.bmp_sheaf.specs.States.{SheafState, IsRoom, sheaf_of}
 use Rattle.bmp_sections.specs.Numbers.{is_above, equation_matrix}
-use Rattle.bmp_sections.specs.Positions.{position_start, position_count, equation_count}
+use Rattle.bmp_sections.specs.Positions.{position_start}
 use Rattle.bmp_sections.specs.TupleLists.{TupleList, tuples_over}
 use Rattle.bmp_sections.specs.Indexes.{HasRoom}
 use Rattle.bmp_sections.proofs.EquationNumbers.{equation_matrix_below}

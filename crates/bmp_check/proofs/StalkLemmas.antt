@@ -13,8 +13,8 @@ use Rattle.bmp_graph.specs.Graph.{Graph, IsGraph, vertex_count, edge_count, lowe
 use Rattle.bmp_graph.proofs.GraphLemmas.{edge_rises}
 use Rattle.bmp_sheaf.specs.Coordinates.{stalk_count}
 use Rattle.bmp_sheaf.specs.Written.{first_edge, up_count}
-use Rattle.bmp_sheaf.specs.States.{Stalk, no_stalk, SheafState, stalk_of, next_vertex, with_stalk}
-use Rattle.bmp_sheaf.specs.StalkFaults.{IsStalk, HasLifts, LiftFits, lift_room, BreaksFirst}
+use Rattle.bmp_sheaf.specs.States.{Stalk, no_stalk, SheafState, stalk_of, next_vertex}
+use Rattle.bmp_sheaf.specs.StalkFaults.{IsStalk, HasLifts, LiftFits, BreaksFirst}
 use Rattle.bmp_sheaf.proofs.UpEdges.{up_range_of}
 use Rattle.bmp_sheaf.specs.declared.fault.SheafFault.{SheafFault}
 use Rattle.bmp_sheaf.specs.declared.fault.SheafFault.TheVariants.{DegreeOrder, DegreeOverBound, LiftShape, Memory}
@@ -23,7 +23,7 @@ use Rattle.bmp_cert.specs.declared.cert.VertexPart.{VertexPart}
 use Rattle.bmp_cert.specs.Counts.{no_part, part_of}
 use Rattle.bmp_check.specs.Accepted.{IsAccepted}
 use Rattle.bmp_check.specs.Fits.{DegreesFit, ShapesFit}
-use Rattle.bmp_check.specs.Shaped.{cert_stalk, IsSheafOf}
+use Rattle.bmp_check.specs.Shaped.{cert_stalk}
 use Rattle.bmp_check.specs.Verdicts.{CountPasses}
 use Rattle.bmp_check.proofs.FormLemmas.{part_formed, top_formed, vectors_below}
 

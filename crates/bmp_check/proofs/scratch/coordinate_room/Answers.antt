@@ -1,6 +1,5 @@
-use Rattle.std.proofs.Common.{◌≡◌, ℕ, ◌<◌, ◌≤◌, sym, ap, subst, ◌∙◌, arith, below_more}
+use Rattle.std.proofs.Common.{ℕ, sym, subst, arith, below_more}
 use Rattle.bmp_field.specs.declared.prime.PrimeField.{PrimeField}
-use Rattle.bmp_graph.specs.Graph.{Graph, vertex_count}
 use Rattle.bmp_sheaf.specs.States.{SheafState, IsRoom}
 use Rattle.bmp_check.specs.Shaped.{IsSheafOf}
 use Rattle.bmp_check.specs.ShapedViews.{graph_in, cert_in}

@@ -1,4 +1,3 @@
-use Rattle.std.proofs.Common.{◌≡◌}
 use Rattle.bmp_check.specs.Shaped.{IsRoomFor}
 use Rattle.bmp_check.specs.ShapedViews.{graph_in, cert_in}
 use Rattle.bmp_check.specs.Verdicts.{BlockPasses}
