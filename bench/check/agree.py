@@ -8,6 +8,8 @@ import random
 import subprocess
 import sys
 
+KEYWORDS = ("lift", "tuple", "row", "cover", "source", "dual")
+
 
 def changed_number(lines, pick):
     """One number of one line a little larger or smaller, or another one."""
@@ -24,7 +26,7 @@ def changed_number(lines, pick):
 
 def changed_entry(lines, pick):
     """One value or place of a vector changed, or an entry left out or added."""
-    rows = [i for i, line in enumerate(lines) if line.split(" ")[0] in ("lift", "tuple", "row", "cover", "source", "dual")]
+    rows = [i for i, line in enumerate(lines) if line.split(" ")[0] in KEYWORDS]
     if not rows:
         return changed_number(lines, pick)
     i = pick.choice(rows)
@@ -41,6 +43,29 @@ def changed_entry(lines, pick):
         k = pick.randrange(len(entry))
         entry[k] = str(max(int(entry[k]) + pick.choice([-1, 1]), 0))
     lines[i] = " ".join([words[0], str(len(entries))] + [word for entry in entries for word in entry])
+    return lines
+
+
+def changed_value(lines, pick):
+    """One entry with another number of the field, or moved by one place where that is free, so that the text stays one."""
+    prime = next((int(line.split(" ")[1]) for line in lines if line.startswith("prime ")), 2)
+    rows = [i for i, line in enumerate(lines) if line.split(" ")[0] in KEYWORDS and len(line.split(" ")) > 3]
+    if not rows:
+        return changed_number(lines, pick)
+    i = pick.choice(rows)
+    words = lines[i].split(" ")
+    k = pick.randrange(2, len(words) - 1, 2)
+    if not all(word.isdigit() for word in words[1:]):
+        return lines
+    places = [int(words[j]) for j in range(2, len(words), 2)]
+    moved = int(words[k]) + pick.choice([-1, 1])
+    if prime > 2 and pick.randrange(2):
+        words[k + 1] = str(int(words[k + 1]) % (prime - 1) + 1)
+    elif moved >= 0 and moved not in places:
+        words[k] = str(moved)
+    else:
+        words[1:2], words[k:k + 2] = [str(int(words[1]) - 1)], []
+    lines[i] = " ".join(words)
     return lines
 
 
@@ -64,7 +89,7 @@ def changed_lines(lines, pick):
 def altered(text, pick):
     lines = text.split("\n")[:-1]
     for _ in range(pick.choice([1, 1, 1, 2])):
-        change = pick.choice([changed_entry, changed_entry, changed_entry, changed_number, changed_lines])
+        change = pick.choice([changed_value] * 5 + [changed_entry] * 2 + [changed_number, changed_lines])
         if lines:
             lines = change(lines, pick)
     end = pick.choice(["\n"] * 8 + ["", "\nx"])
