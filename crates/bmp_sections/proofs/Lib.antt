@@ -15,3 +15,4 @@ pub mod SliceLemmas
 pub mod TupleLemmas
 pub mod UpperSetLemmas
 pub mod EdgeFaultLemmas
+pub mod StoredRowLemmas

@@ -2,6 +2,7 @@
 #![tactic(auto)]
 
 pub mod compatible;
+pub mod constraints;
 pub mod equations;
 pub mod index;
 pub mod laws;
