@@ -1,5 +1,5 @@
-use Rattle.std.proofs.Common.{◌≡◌, ◌<◌, ◌∙◌, length, refl, subst, arith}
-use Rattle.bmp_linear.specs.SparseVectors.{FitsBelow, number_at}
+use Rattle.std.proofs.Common.{◌≡◌, ◌∙◌, length, refl, subst}
+use Rattle.bmp_linear.specs.SparseVectors.{FitsBelow}
 use Rattle.bmp_sections.proofs.StoredRowLemmas.{row_vector_made}
 use Rattle.bmp_sections.proofs.constraints.row_vector.Goals as goal
 
