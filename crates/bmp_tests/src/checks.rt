@@ -1,5 +1,5 @@
 //! Certificates with more than one vertex: what holds, and the first comparison that fails.
-use crate::runs::{assert_run, with_line};
+use crate::runs::{assert_run, with_line, with_lines};
 use crate::texts::{LINE, POINT, SQUARE, SURPLUS};
 use bmp_program::Status;
 use std::alloc::Global;
@@ -104,8 +104,40 @@ fn the_line_altered(rt: HostRuntime) -> Result<(), Fail> {
         (8, "vertex 1 0", "Shape", [0, 1, 0, 1, 0]),
         (8, "vertex 1 1 1", "Shape", [0, 1, 0, 1, 0]),
         (11, "lift 0", "Cover", [0, 0, 0, 0, 1]),
+        (15, "cover 0", "Cover", [0, 0, 0, 0, 1]),
+        (16, "source 0", "Source", [0, 0, 0, 1, 0]),
+        (17, "dual 0", "Dual", [0, 0, 0, 0, 1]),
     ] {
         assert_refused(&rt, rt.alloc(), LINE, place, line, kind, numbers)?;
+    }
+    Ok(())
+}
+
+/// The edge of the line is taken out, the tuple of the square is taken out, and two blocks of the square are wrong, of which
+/// that of the greater vertex is told.
+#[test]
+fn several_lines_altered(rt: HostRuntime) -> Result<(), Fail> {
+    let alloc = rt.alloc();
+    let no_edge = with_lines(alloc, LINE, 10, 11, "edges 0")?;
+    let pivots = "block 0 3 0\npivots 0 1 2\nrow 1 0 1\nrow 1 1 1\nrow 0\nsource 0";
+    let no_tuple = with_lines(alloc, SQUARE, 32, 38, pivots)?;
+    let one_cover = with_line(alloc, SQUARE, 16, "cover 0")?;
+    let no_covers = with_line(alloc, &one_cover, 25, "cover 0")?;
+    for (text, written) in [
+        (
+            &no_edge,
+            "refused vertex 0 degree 0 kind Shape index 0 place 0 left 0 right 1\n",
+        ),
+        (
+            &no_tuple,
+            "refused vertex 0 degree 0 kind Row index 0 place 2 left 2 right 0\n",
+        ),
+        (
+            &no_covers,
+            "refused vertex 2 degree 0 kind Cover index 0 place 0 left 0 right 1\n",
+        ),
+    ] {
+        assert_run(&rt, alloc, "check", text, Status::Refused, written)?;
     }
     Ok(())
 }

@@ -42,11 +42,25 @@ pub(crate) fn with_line(
     place: usize,
     line: &str,
 ) -> Result<String, AllocError> {
+    with_lines(alloc, text, place, place, line)
+}
+
+/// The text with other lines in place of those from `first` to `last`, counted from 1.
+pub(crate) fn with_lines(
+    alloc: Global,
+    text: &str,
+    first: usize,
+    last: usize,
+    lines: &str,
+) -> Result<String, AllocError> {
+    let before = first.saturating_sub(1);
     let mut changed = String::new(alloc);
     for (index, old) in text.lines().enumerate() {
-        let is_there = place.checked_sub(1) == Some(index);
-        changed.push_str(if is_there { line } else { old })?;
-        changed.push('\n')?;
+        let is_kept = index < before || index >= last;
+        if is_kept || index == before {
+            changed.push_str(if is_kept { old } else { lines })?;
+            changed.push('\n')?;
+        }
     }
     Ok(changed)
 }
