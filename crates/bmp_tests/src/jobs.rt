@@ -61,48 +61,31 @@ const A6_LONGEST: &str = "21 1 2 1 3 2 1 4 3 2 1 5 4 3 2 1 6 5 4 3 2 1";
 
 #[test]
 fn jobs_that_break_a_rule(rt: HostRuntime) -> Result<(), Fail> {
-    for (rows, prime, word, degree, written) in [
-        (&[] as &[&str], "2", "0", "0", "job cartan rank\n"),
-        (&["3"], "2", "0", "0", "job cartan diagonal 1\n"),
-        (
-            &["2 0", "-1 2"],
-            "2",
-            "0",
-            "0",
-            "job cartan unpaired-zero 1 2\n",
-        ),
-        (
-            &["2 1", "1 2"],
-            "2",
-            "0",
-            "0",
-            "job cartan off-diagonal 1 2\n",
-        ),
-        (
-            &["2 -2", "-2 2"],
-            "2",
-            "1 1",
-            "0",
-            "job finite pairs 18 19\n",
-        ),
+    for (rows, prime, word, degree, rule) in [
+        (&[] as &[&str], "2", "0", "0", "cartan rank"),
+        (&["3"], "2", "0", "0", "cartan diagonal 1"),
+        (&["2 0", "-1 2"], "2", "0", "0", "cartan unpaired-zero 1 2"),
+        (&["2 1", "1 2"], "2", "0", "0", "cartan off-diagonal 1 2"),
+        (&["2 -2", "-2 2"], "2", "1 1", "0", "finite pairs 18 19"),
         // Only the coroot is too large.
         (
             &["2 -32", "-1 2"],
             "2",
             "1 1",
             "0",
-            "job finite coordinate 31 30\n",
+            "finite coordinate 31 30",
         ),
-        (A1, "4", "1 1", "0", "job prime 4\n"),
-        (A1, "2", "1 2", "0", "job letter 0\n"),
-        (A1, "2", "2 1 1", "0", "job reduced 0\n"),
-        (A6, "2", A6_LONGEST, "0", "job vertices 2049\n"),
-        (A1, "3", "1 1", "7", "job degree 7\n"),
-        (D5, "3", D5_LONGEST, "5", "job size 241920\n"),
+        (A1, "4", "1 1", "0", "prime 4"),
+        (A1, "2", "1 2", "0", "letter 0"),
+        (A1, "2", "2 1 1", "0", "reduced 0"),
+        (A6, "2", A6_LONGEST, "0", "vertices 2049"),
+        (A1, "3", "1 1", "7", "degree 7"),
+        (D5, "3", D5_LONGEST, "5", "size 241920"),
     ] {
         let text = job(rt.alloc(), rows, prime, word, degree)?;
+        let written = format!(in rt.alloc(); "job {rule}\n")?;
         for command in ["gkm", "graph"] {
-            assert_run(&rt, rt.alloc(), command, &text, Status::BadJob, written)?;
+            assert_run(&rt, rt.alloc(), command, &text, Status::BadJob, &written)?;
         }
     }
     Ok(())
