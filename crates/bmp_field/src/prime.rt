@@ -1,26 +1,26 @@
 //! The fields of a prime number of elements.
 ghost use Rattle.std.specs.Prelude.{◌≡◌, ◌≢◌, ◌↔◌, ℕ, ◌+◌, ◌*◌, ◌%◌, ◌<◌, ◌≤◌, ◌^◌, IsTrue, IsOk, IsErr, IfOk, slice_index};
-ghost use Rattle.bmp_field.specs.Primes.{is_listed, is_taken};
+ghost use Rattle.bmp_field.specs.Primes.{is_listed};
 ghost use Rattle.bmp_field.specs.Tables.{IsReciprocal, HoldsInverses};
 
 use crate::field::Field;
 use crate::multiples::{add_once, add_products, subtract_once};
 use thiserror::Error;
 
-/// The number is none of 2, 3, 5, 7, 11 and 13.
+/// The number is none of the primes from 2 to 61.
 #[derive(Clone, Copy, Debug, PartialEq, Eq, Error)]
-#[error("the prime is none of 2, 3, 5, 7, 11, 13")]
+#[error("the number is no prime from 2 to 61")]
 pub struct BadPrime;
 
 /// The power of two over which a reciprocal is kept.
 const SCALE: u32 = 1 << 18;
 
-/// One more than the largest listed prime's largest number.
+/// The largest listed prime: its numbers are the places of a table.
 const NUMBERS: usize = 61;
 
 /// The numbers below a prime, with sums and products modulo it.
 ///
-/// Products are reduced by a reciprocal and inverses are looked up, so no call divides.
+/// Products are reduced by a reciprocal and inverses are looked up, so that no call of the trait divides.
 #[derive(Clone, Copy, Debug)]
 pub struct PrimeField {
     prime: u8,
@@ -34,14 +34,17 @@ pub struct PrimeField {
 impl PrimeField {
     ghost use Rattle.bmp_field.specs.PrimeFields.{size_of};
 
-    /// The field of `p` elements, where `p` is 2, 3, 5, 7, 11 or 13.
+    /// The field of `p` elements, where `p` is a prime from 2 to 61. Its inverses are found by trying, in
+    /// at most `p` squared steps.
     pub fn new(p: u8) -> Result<PrimeField, BadPrime>
-        ensures taken { IsOk result ↔ IsTrue (is_taken p) }
-        ensures refused { IsErr result ↔ ¬ IsTrue (is_taken p) }
+        ensures taken { IsOk result ↔ IsTrue (is_listed p) }
+        ensures refused { IsErr result ↔ ¬ IsTrue (is_listed p) }
         ensures field { IfOk result (λ f. size_of f ≡ p) }
     {
         match p {
-            2 | 3 | 5 | 7 | 11 | 13 => Ok(PrimeField::of_listed(p)),
+            2 | 3 | 5 | 7 | 11 | 13 | 17 | 19 | 23 | 29 | 31 | 37 | 41 | 43 | 47 | 53 | 59 | 61 => {
+                Ok(PrimeField::of_listed(p))
+            }
             _ => Err(BadPrime),
         }
     }

@@ -33,6 +33,31 @@ free_within ps (suc n) j h l =
       | inr other ↦ omega (arith, free_within ps n j h (omega arith), free_grows ps n)
     ]
 
+-- a free place below n is below n
+pub free_place_below : (ps : List ℕ) (n t : ℕ) → t < length (free_places ps n) → get_or (free_places ps n) t 0 < n
+free_place_below ps zero t l = absurd (omega arith)
+free_place_below ps (suc n) t l =
+    elim (cases_Bool (has_place ps n)) [
+      | inl pivot ↦
+          let same : free_places ps (suc n) ≡ free_places ps n =
+          cond-true (has_place ps n) (free_places ps n) (free_places ps n ++ n ∷ []) pivot in
+          let before : get_or (free_places ps n) t 0 < n = free_place_below ps n t (rw same at l) in
+          rw same (omega arith)
+      | inr free ↦
+          let more : free_places ps (suc n) ≡ free_places ps n ++ n ∷ [] =
+          cond-false (has_place ps n) (free_places ps n) (free_places ps n ++ n ∷ []) free in
+          let within : t < length (free_places ps n ++ n ∷ []) = rw more at l in
+          let count : length (free_places ps n ++ n ∷ []) ≡ length (free_places ps n) + 1 = simp length-append refl in
+          rw more
+          (elim (cases_eq t (length (free_places ps n))) [
+            | inl last ↦ rw (get_or_push (free_places ps n) n 0 t (sym last)) (omega arith)
+            | inr other ↦
+                let inside : t < length (free_places ps n) = omega arith in
+                let before : get_or (free_places ps n) t 0 < n = free_place_below ps n t inside in
+                rw (get_or_append_left (free_places ps n) (n ∷ []) 0 t inside) (omega arith)
+          ])
+    ]
+
 -- a free place stands behind the free places below it
 pub free_at : (ps : List ℕ) (n j : ℕ) → has_place ps j ≡ false → j < n → get_or (free_places ps n) (length (free_places ps j)) 0 ≡ j
 free_at ps zero j h l = absurd (omega arith)

@@ -17,3 +17,6 @@ pub mod KernelLemmas
 pub mod Spanning
 pub mod KernelSpans
 pub mod GatherLemmas
+pub mod RowVectorLemmas
+pub mod StoredLemmas
+pub mod SameComparisons

@@ -10,15 +10,23 @@ use Rattle.bmp_linear.proofs.SparseLemmas.{number_at-below}
 pub numbers_below-none : (p : ℕ) (a : Matrix) → a.rows ≡ 0 → NumbersBelow p a
 numbers_below-none p a none i j l m = absurd (omega arith)
 
-pub numbers_below-pushed : (p : ℕ) (old new : Matrix) (v : List Entry) → 0 < p → NumbersBelow p old → ValuesBelow v p → IsRowPushed old new (number_at v) → NumbersBelow p new
-numbers_below-pushed p old new v some numbers values pushed i j l m =
-    let rows : new.rows ≡ old.rows + 1 = pushed.rows in
-    let cols : new.cols ≡ old.cols = pushed.cols in
-    let column : j < old.cols = omega arith in
+pub numbers_below-row_pushed : (p : ℕ) (old new : Matrix) (row : ℕ → ℕ) → NumbersBelow p old →
+    ((j : ℕ) → j < old.cols → row j < p) → IsRowPushed old new row → NumbersBelow p new
+numbers_below-row_pushed p old new row numbers below pushed i j l m =
+    let column : j < old.cols = subst (λ n. j < n) pushed.cols m in
     elim (cases_eq i old.rows) [
-      | inl last ↦ subst (λ r. new.entry r j < p) (sym last) (subst (λ n. n < p) (sym (pushed.pushed j column)) (number_at-below v p j some values))
-      | inr other ↦ let before : i < old.rows = omega arith in subst (λ n. n < p) (sym (pushed.others i j before column)) (numbers i j before column)
+      | inl last ↦
+          subst (λ r. new.entry r j < p) (sym last) (subst (λ n. n < p) (sym (pushed.pushed j column)) (below j column))
+      | inr other ↦
+          let whole : new.rows ≡ old.rows + 1 = pushed.rows in
+          let before : i < old.rows = omega arith in
+          subst (λ n. n < p) (sym (pushed.others i j before column)) (numbers i j before column)
     ]
+
+pub numbers_below-pushed : (p : ℕ) (old new : Matrix) (v : List Entry) → 0 < p → NumbersBelow p old →
+    ValuesBelow v p → IsRowPushed old new (number_at v) → NumbersBelow p new
+numbers_below-pushed p old new v some numbers values pushed =
+    numbers_below-row_pushed p old new (number_at v) numbers (λ j l. number_at-below v p j some values) pushed
 
 pub numbers_below-added : (p : ℕ) (old new : Matrix) (into from c : ℕ) → 0 < p → NumbersBelow p old → IsRowAdded p old new into from c → NumbersBelow p new
 numbers_below-added p old new into from c some numbers added i j l m =

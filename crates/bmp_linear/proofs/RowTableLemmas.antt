@@ -1,7 +1,8 @@
 -- Rows in memory: what stands where, and one row more.
-use Rattle.std.proofs.Common.{◌≡◌, ◌≢◌, ℕ, ◌+◌, ◌-◌, ◌*◌, ◌<◌, ◌++◌, replicate, map, take_all, length-append, List, [], length, get_or, set, take, eqb, eq-eqb, ne_eqb, length-set, get_or-set_same, get_or-set_other, sym, ap, ◌∙◌, inl, inr, arith}
+use Rattle.std.proofs.Common.{◌≡◌, ◌≢◌, ℕ, ◌+◌, ◌-◌, ◌*◌, ◌<◌, ◌≤◌, ◌++◌, replicate, map, take_all, length-append, List, [], length, get_or, set, take, refl, ◌∷◌, eqb, eq-eqb, ne_eqb, length-set, get_or-set_same, get_or-set_other, sym, ap, ap₂, subst, ◌∙◌, inl, inr, arith}
 use Rattle.std.proofs.lemmas.Bool.{cases_eq, cond-true, cond-false}
-use Rattle.std.proofs.lemmas.List.{get_or-map, length-map, length-replicate}
+use Rattle.bmp_math.specs.Matrices.{Matrix}
+use Rattle.std.proofs.lemmas.List.{get_or_push, get_or_append_left, get_or-append-add, get_or-map, length-map, length-replicate, map-append}
 use Rattle.std.proofs.lemmas.Grind.{common_steps}
 use Rattle.std.proofs.lemmas.Nat.{mul-add-lt}
 use Rattle.smallvec.specs.SmallVec.{SmallVec}
@@ -40,6 +41,13 @@ row_written_more v start cols old new i d rising l below so_far =
       kept = λ m before. let apart : m ≢ start + (get_or v i d).place = omega arith in get_or-set_other new (start + (get_or v i d).place) m (get_or v i d).value 0 apart ∙ so_far.kept m before;
     }
 
+-- all entries
+pub row_written_all : (v u : List Entry) (i start cols : ℕ) (old new : List ℕ) → length v ≤ i → v ≡ u →
+    start ≡ length old → IsRowWritten (take i v) start cols old new → IsRowWritten u (length old) cols old new
+row_written_all v u i start cols old new past same at h =
+    subst (λ s. IsRowWritten u s cols old new) at
+    (subst (λ (w : List Entry). IsRowWritten w start cols old new) (take_all i v past ∙ same) h)
+
 -- zeros behind the old rows
 pub row_written_none : (start cols n : ℕ) (old new : List ℕ) → start ≡ length old → n ≡ start + cols → new ≡ take n old ++ replicate (n - start) 0 → IsRowWritten [] start cols old new
 row_written_none start cols n old new is_start is_n is_new =
@@ -63,6 +71,63 @@ row_pushed t rows cols new v full is_rows is_cols row = record {
   others = λ i j k l.
       let before : i * t.cols + j < length t.numbers = let inside : i * t.cols + j < t.cols * t.rows = mul-add-lt i t.cols j t.rows k l in omega (arith, full, inside) in
       ap (λ w. get_or new (i * w + j) 0) is_cols ∙ row.kept (i * t.cols + j) before;
+}
+
+-- numbers that were appended are the new last row
+pub numbers_pushed : (t : NumberTable) (rows cols : ℕ) (new xs : List ℕ) → length t.numbers ≡ t.rows * t.cols →
+    rows ≡ t.rows + 1 → cols ≡ t.cols → length xs ≡ t.cols → new ≡ t.numbers ++ xs →
+    IsRowPushed (matrix_of_numbers t) (matrix_of_numbers (record { rows = rows; cols = cols; numbers = new }))
+    (λ j. get_or xs j 0)
+numbers_pushed t rows cols new xs full is_rows is_cols sized is_new = record {
+  rows = is_rows;
+  cols = is_cols;
+  pushed = λ j l.
+      let at : t.rows * cols + j ≡ length t.numbers + j = rw is_cols (omega (arith, full)) in
+      ap (λ m. get_or new m 0) at
+      ∙ ap (λ w. get_or w (length t.numbers + j) 0) is_new
+      ∙ get_or-append-add t.numbers xs j 0;
+  others = λ i j k l.
+      let inside : i * t.cols + j < t.cols * t.rows = mul-add-lt i t.cols j t.rows k l in
+      let before : i * t.cols + j < length t.numbers = omega (arith, full, inside) in
+      ap (λ w. get_or new (i * w + j) 0) is_cols
+      ∙ ap (λ w. get_or w (i * t.cols + j) 0) is_new
+      ∙ get_or_append_left t.numbers xs 0 (i * t.cols + j) before;
+}
+
+-- entries that were appended are the new last row
+pub entries_pushed : (t u : EntryTable) (v : List Entry) → u.cols ≡ t.cols → u.rows ≡ t.rows ++ v ∷ [] →
+    IsRowPushed (matrix_of_entries t) (matrix_of_entries u) (number_at v)
+entries_pushed t u v is_cols is_rows = record {
+  rows = ap length is_rows ∙ length-append t.rows (v ∷ []);
+  cols = is_cols;
+  pushed = λ j l.
+      ap (λ xs. number_at (get_or xs (length t.rows) []) j) is_rows
+      ∙ ap (λ es. number_at es j) (get_or_push t.rows v [] (length t.rows) refl);
+  others = λ i j k l.
+      ap (λ xs. number_at (get_or xs i []) j) is_rows
+      ∙ ap (λ es. number_at es j) (get_or_append_left t.rows (v ∷ []) [] i k);
+}
+
+-- a row that was appended in memory
+pub table_pushed : (t : EntryTable) (cols : ℕ) (rows new : List (SmallVec Entry)) (e : SmallVec Entry)
+    (v : List Entry) → record { cols = cols; rows = map entries_of rows } ≡ t → new ≡ rows ++ e ∷ [] → e.items ≡ v →
+    IsRowPushed (matrix_of_entries t) (matrix_of_entries (record { cols = cols; rows = map entries_of new }))
+    (number_at v)
+table_pushed t cols rows new e v seen is_new is_v =
+    entries_pushed t (record { cols = cols; rows = map entries_of new }) v
+    (ap (λ (u : EntryTable). u.cols) seen)
+    (ap (map entries_of) is_new
+    ∙ map-append entries_of rows (e ∷ [])
+    ∙ ap₂ (λ (xs : List (List Entry)) x. xs ++ x ∷ []) (ap (λ (u : EntryTable). u.rows) seen) is_v)
+
+-- and what they are the entries of
+pub row_pushed_as : (old new : Matrix) (row other : ℕ → ℕ) → ((j : ℕ) → j < old.cols → row j ≡ other j) →
+    IsRowPushed old new row → IsRowPushed old new other
+row_pushed_as old new row other same h = record {
+  rows = h.rows;
+  cols = h.cols;
+  pushed = λ j l. h.pushed j l ∙ same j l;
+  others = h.others;
 }
 
 -- a row of the table is a row in memory

@@ -1,27 +1,38 @@
 -- Evidence that passes spans the kernel, over numbers modulo a prime.
-use Rattle.std.proofs.Common.{◌≡◌, ◌≢◌, ℕ, suc, ◌+◌, ◌*◌, ◌%◌, ◌<◌, ◌⊎◌, arith, refl, sym, ap, ◌∙◌, inl, inr, eq-eqb, ne_eqb}
+use Rattle.std.proofs.Common.{◌≡◌, ◌≢◌, ℕ, suc, ◌+◌, ◌*◌, ◌%◌, ◌<◌, ◌⊎◌, arith, refl, sym, ap, ◌∙◌, inl, inr}
 use Rattle.bmp_math.specs.Sums.{sum_below}
 use Rattle.bmp_math.specs.Congruences.{SameMod}
 use Rattle.bmp_math.specs.Vectors.{SameVector, unit, plus, scaled}
-use Rattle.bmp_math.specs.Matrices.{Matrix, combination, image, IsInKernel}
+use Rattle.bmp_math.specs.Matrices.{Matrix, combination, image, IsInKernel, IsIndependent}
 use Rattle.bmp_math.proofs.CongruenceLemmas.{same_add, same_minus, minus_same, mul_zero, zero_mul, mul_one, one_mul}
 use Rattle.bmp_math.proofs.SumLemmas.{sum_zero_mod, sum_only_mod}
+use Rattle.bmp_math.proofs.UnitLemmas.{unit_same, unit_other}
 use Rattle.bmp_math.proofs.MatrixLemmas.{image-plus, image-scaled, image-combination, dot-combination}
 
 -- rows with evidence that passed: pivots and free places are all places, each basis vector is a unit at
 -- the free places and in the kernel, each combination of the rows is a unit at the pivots
 pub record Passed (p : ℕ) (a : Matrix) (pivots frees : ℕ) (pivot free : ℕ → ℕ) (basis rows : ℕ → ℕ → ℕ) : Type 0 where
   pub pivot_below : (s : ℕ) → s < pivots → pivot s < a.cols
+  pub free_below : (t : ℕ) → t < frees → free t < a.cols
   pub each_place : (j : ℕ) → j < a.cols → ((s : ℕ) × (s < pivots) × (pivot s ≡ j)) ⊎ ((t : ℕ) × (t < frees) × (free t ≡ j))
   pub basis_free : (t u : ℕ) → t < frees → u < frees → SameMod p (basis t (free u)) (unit u t)
   pub basis_kernel : (t : ℕ) → t < frees → IsInKernel p a (basis t)
   pub row_pivot : (s u : ℕ) → s < pivots → u < pivots → SameMod p (combination (rows s) a.entry a.rows (pivot u)) (unit u s)
 
-unit_same : (i j : ℕ) → i ≡ j → unit i j ≡ 1
-unit_same i j e = grind (arith, eq-eqb)
+module _
+    {p : ℕ} {a : Matrix} {pivots frees : ℕ} {pivot free : ℕ → ℕ} {basis rows : ℕ → ℕ → ℕ}
+    (e : Passed p a pivots frees pivot free basis rows) where
+  -- at its own free place each vector of the basis gives a combination its factor
+  combination_at_free : (c : ℕ → ℕ) (t : ℕ) → t < frees → SameMod p (combination c basis frees (free t)) (c t)
+  combination_at_free c t l =
+      sum_only_mod p (λ u. c u * basis u (free t)) frees t l
+      (λ u k other. mul_zero p (c u) (basis u (free t))
+      (e.basis_free u t k l ∙ ap (λ z. z % p) (unit_other t u (λ same. other (sym same)))))
+      ∙ mul_one p (c t) (basis t (free t)) (e.basis_free t t l l ∙ ap (λ z. z % p) (unit_same t))
 
-unit_other : (i j : ℕ) → i ≢ j → unit i j ≡ 0
-unit_other i j e = grind (arith, ne_eqb)
+  -- so a combination that is 0 has the factors 0
+  pub independent : IsIndependent p a.cols basis frees
+  independent c zero t l = sym (combination_at_free c t l) ∙ zero (free t) (e.free_below t l)
 
 module _ (q : ℕ) (a : Matrix) (pivots frees : ℕ) (pivot free : ℕ → ℕ) (basis rows : ℕ → ℕ → ℕ) (e : Passed (suc q) a pivots frees pivot free basis rows) (v : ℕ → ℕ) (kernel : IsInKernel (suc q) a v) where
   -- the combination that v is to be
@@ -34,9 +45,7 @@ module _ (q : ℕ) (a : Matrix) (pivots frees : ℕ) (pivot free : ℕ → ℕ) 
 
   spanned_free : (t : ℕ) → t < frees → SameMod (suc q) (spanned (free t)) (v (free t))
   unfolding spanned
-  spanned_free t l =
-      sum_only_mod (suc q) (λ u. v (free u) * basis u (free t)) frees t l (λ u k other. mul_zero (suc q) (v (free u)) (basis u (free t)) (e.basis_free u t k l ∙ ap (λ z. z % suc q) (unit_other t u (λ e. other (sym e)))))
-      ∙ mul_one (suc q) (v (free t)) (basis t (free t)) (e.basis_free t t l l ∙ ap (λ z. z % suc q) (unit_same t t refl))
+  spanned_free t l = combination_at_free e (λ u. v (free u)) t l
 
   rest_free : (t : ℕ) → t < frees → SameMod (suc q) (rest (free t)) 0
   unfolding rest
@@ -71,7 +80,7 @@ module _ (q : ℕ) (a : Matrix) (pivots frees : ℕ) (pivot free : ℕ → ℕ) 
         | inr at_free ↦
             mul_zero (suc q) (row j) (rest j) (ap (λ z. rest z % suc q) (sym at_free.2) ∙ rest_free at_free.0 at_free.1)
       ]) in
-      let one : SameMod (suc q) (row (pivot s)) 1 = e.row_pivot s s l l ∙ ap (λ z. z % suc q) (unit_same s s refl) in
+      let one : SameMod (suc q) (row (pivot s)) 1 = e.row_pivot s s l l ∙ ap (λ z. z % suc q) (unit_same s) in
       sym (one_mul (suc q) (row (pivot s)) (rest (pivot s)) one) ∙ sym only ∙ total
 
   rest_zero : (j : ℕ) → j < a.cols → SameMod (suc q) (rest j) 0

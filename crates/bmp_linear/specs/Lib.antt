@@ -1,5 +1,6 @@
 pub mod SparseVectors
 pub mod RowTables
+pub mod RowVectors
 pub mod RowChanges
 pub mod Runs
 pub mod EntryChanges

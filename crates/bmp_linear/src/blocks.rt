@@ -1,5 +1,5 @@
 //! The evidence of one degree, and a list of it.
-ghost use Rattle.std.specs.Prelude.{◌≡◌, ◌<◌, [], ◌∷◌, ◌++◌, length, slice_get, Some, OnOk, OnErr, IfOk};
+ghost use Rattle.std.specs.Prelude.{◌≡◌, ◌<◌, ◌^◌, [], ◌∷◌, ◌++◌, length, slice_get, Some, OnOk, OnErr, IfOk};
 
 use crate::evidence::{CoverEvidence, KernelEvidence};
 use std::alloc::{AllocError, Global};
@@ -91,7 +91,8 @@ impl Blocks {
 
     /// The members, in order.
     pub fn as_slice(&self) -> &[DegreeBlock]
-        ensures { result.now ≡ self.now }
+        ensures items { result.now ≡ self.now }
+        ensures few { length result.now < 2 ^ 32 }
     {
         self.items.as_slice()
     }

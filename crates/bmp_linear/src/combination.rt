@@ -1,5 +1,5 @@
 //! The check that rows combine to a vector.
-ghost use Rattle.std.specs.Prelude.{◌≡◌, ℕ, ◌%◌, ◌<◌, ◌≤◌, length, slice_index, OnOk, IfErr, max};
+ghost use Rattle.std.specs.Prelude.{◌≡◌, ℕ, ◌%◌, ◌<◌, ◌≤◌, length, slice_index, OnOk, IfErr};
 ghost use Rattle.bmp_math.specs.Matrices.{Matrix, NumbersBelow, combination};
 ghost use Rattle.bmp_linear.specs.SparseVectors.{FitsBelow, ValuesBelow, IsSpread, number_at};
 ghost use Rattle.bmp_linear.specs.Faults.{AllPass, IsFirstFailure};
@@ -35,6 +35,7 @@ pub fn combine_rows<F: Field, A: Rows<F>>(f: &F, a: &A, c: &Vector, s: &mut Scra
     requires room { (A.matrix a.now).cols ≤ length s.old.first }
     ensures combined { IsCombined (F.size f.now) (A.matrix a.now) (number_at c.now) s.new.first }
     ensures scratch { length s.new.first ≡ length s.old.first }
+    ensures second { s.new.second ≡ s.old.second }
 {
     combine(f, a, c, s.first.as_mut_slice());
 }
@@ -92,12 +93,19 @@ pub fn check_combination<F: Field, A: Rows<F>>(
     requires values { ValuesBelow c.now (F.size f.now) }
     requires target_fits { FitsBelow target.now (A.matrix a.now).cols }
     requires target_values { ValuesBelow target.now (F.size f.now) }
-    requires room { max (A.matrix a.now).rows (A.matrix a.now).cols ≤ length s.old.first }
+    requires room { (A.matrix a.now).cols ≤ length s.old.first }
     ensures ok { OnOk result
         (AllPass (ComparesCombination (F.size f.now) (A.matrix a.now) c.now target.now)) }
     ensures fault { IfErr result
         (IsFirstFailure (ComparesCombination (F.size f.now) (A.matrix a.now) c.now target.now)) }
+
+    // The combination is the target.
+    ensures combined { OnOk result
+        ((j : ℕ) → j < (A.matrix a.now).cols
+        → combination (number_at c.now) (A.matrix a.now).entry (A.matrix a.now).rows j % F.size f.now
+        ≡ number_at target.now j) }
     ensures scratch { length s.new.first ≡ length s.old.first }
+    ensures second { length s.new.second ≡ length s.old.second }
 {
     let first = s.first.as_mut_slice();
     let second = s.second.as_mut_slice();

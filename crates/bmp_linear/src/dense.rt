@@ -83,6 +83,16 @@ impl<F: Field> RowSpace<F> for DenseRows<F> {
         Ok(())
     }
 
+    fn push_numbers(&mut self, f: &F, numbers: &[u8]) -> Result<(), AllocError> {
+        let _ = f;
+        if self.rows == u32::MAX {
+            return Err(AllocError);
+        }
+        self.numbers.extend_from_slice(numbers)?;
+        self.rows += 1;
+        Ok(())
+    }
+
     fn add_row(&mut self, f: &F, into: u32, from: u32, c: F::E) -> Result<(), AllocError> {
         let cols = self.cols as usize;
         let numbers = self.numbers.as_mut_slice();

@@ -34,6 +34,11 @@ pub fn check_dual<F: Field, A: Rows<F>>(
     requires own { own < (A.matrix a.now).rows }
     ensures ok { OnOk result (AllPass (ComparesDual (F.size f.now) (A.matrix a.now) form.now own)) }
     ensures fault { IfErr result (IsFirstFailure (ComparesDual (F.size f.now) (A.matrix a.now) form.now own)) }
+
+    // The form is 1 on its own row and 0 on the others.
+    ensures dual { OnOk result
+        ((i : ℕ) → i < (A.matrix a.now).rows
+        → image (A.matrix a.now) (number_at form.now) i % F.size f.now ≡ unit own i) }
 {
     for i in 0..a.rows() {
         let left = f.num(a.value_at(f, i, form));

@@ -1,6 +1,6 @@
 //! Entries whose values are multiplied, and sums of two runs of entries.
-ghost use Rattle.std.specs.Prelude.{◌≡◌, ℕ, ◌⊎◌, ◌<◌, length, map, IfOk};
-ghost use Rattle.bmp_linear.specs.SparseVectors.{IsSparse, ValuesBelow};
+ghost use Rattle.std.specs.Prelude.{◌≡◌, ℕ, ◌⊎◌, ◌<◌, ◌≤◌, ◌^◌, length, slice_index, map, IfOk};
+ghost use Rattle.bmp_linear.specs.SparseVectors.{IsSparse, FitsBelow, ValuesBelow, number_at};
 ghost use Rattle.bmp_linear.specs.EntryChanges.{times_entry, after, IsNextEntry, IsEntrySum};
 
 use crate::vector::Entry;
@@ -10,6 +10,29 @@ use std::alloc::{AllocError, Global};
 
 /// How many entries a row keeps in place.
 pub(crate) const INLINE: usize = 4;
+
+/// The entries of the numbers that aren't 0, each at its place.
+pub(crate) fn entries_in(
+    alloc: Global,
+    numbers: &[u8],
+) -> Result<SmallVec<Entry, INLINE>, AllocError>
+    requires { length numbers.now ≤ 2 ^ 32 }
+    ensures sparse { IfOk result (λ entries. IsSparse entries.items) }
+    ensures fits { IfOk result (λ entries. FitsBelow entries.items (length numbers.now)) }
+    ensures numbers { IfOk result
+        (λ entries. (j : ℕ) → j < length numbers.now → number_at entries.items j ≡ slice_index numbers.now j) }
+{
+    let mut entries = SmallVec::new(alloc);
+    for (place, value) in numbers.iter().enumerate() {
+        if *value != 0 {
+            entries.push(Entry {
+                place: place as u32,
+                value: *value,
+            })?;
+        }
+    }
+    Ok(entries)
+}
 
 /// Multiplies the entries' values by `c`.
 pub(crate) fn scale_entries<F: Field>(f: &F, c: F::E, entries: &mut [Entry])

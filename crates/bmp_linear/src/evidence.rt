@@ -8,21 +8,26 @@ use crate::places::Places;
 use crate::vectors::Vectors;
 use std::alloc::AllocError;
 
-/// Evidence about the vectors that rows send to zero: the pivots, a basis, which has a vector for each
-/// column that is no pivot, and for each pivot a combination of the rows.
+/// Evidence about the vectors that rows send to zero.
 #[derive(Debug, Drop)]
 pub struct KernelEvidence {
+    /// Some of the columns, in rising order.
     pub pivots: Places,
+    /// A vector for each column that is no pivot, in their order, with a place for each column.
     pub basis: Vectors,
+    /// A combination of the rows for each pivot, in their order, with a place for each row.
     pub rows: Vectors,
 }
 
-/// Evidence that vectors cover others and that none of them can be left out: combinations, sources and
-/// dual forms.
+/// Evidence that some vectors span others, and that none of them can be left out. What its places number
+/// is said by who checks it.
 #[derive(Debug, Drop)]
 pub struct CoverEvidence {
+    /// For each of the others, how the vectors combine to it.
     pub covers: Vectors,
+    /// For each vector, how the others combine to it.
     pub sources: Vectors,
+    /// For each vector, a form that is 1 on it and 0 on the rest.
     pub duals: Vectors,
 }
 

@@ -1,7 +1,7 @@
 //! The check that a basis spans what rows send to zero.
-ghost use Rattle.std.specs.Prelude.{◌≡◌, ℕ, ◌+◌, ◌%◌, ◌<◌, ◌≤◌, [], length, slice_index, slice_index_or, All, OnOk, IfErr, max};
+ghost use Rattle.std.specs.Prelude.{◌≡◌, ℕ, ◌+◌, ◌%◌, ◌<◌, ◌≤◌, [], length, slice_index, slice_index_or, All, OnOk, IfErr};
 ghost use Rattle.std.specs.List.Sorted.{IsStrictlyIncreasing};
-ghost use Rattle.bmp_math.specs.Matrices.{Matrix, NumbersBelow, IsInKernel};
+ghost use Rattle.bmp_math.specs.Matrices.{Matrix, NumbersBelow, IsInKernel, IsIndependent};
 ghost use Rattle.bmp_linear.specs.SparseVectors.{IsSpread, number_at};
 ghost use Rattle.bmp_linear.specs.FreePlaces.{IsMarked};
 ghost use Rattle.bmp_linear.specs.Faults.{AllPass, IsFirstFailure, WithIndex};
@@ -181,18 +181,21 @@ pub fn check_kernel<F: Field, A: Rows<F>>(
     requires numbers { NumbersBelow (F.size f.now) (A.matrix a.now) }
     requires fits { EvidenceFits e.now (A.matrix a.now).rows (A.matrix a.now).cols }
     requires values { EvidenceBelow e.now (F.size f.now) }
-    requires room { max (A.matrix a.now).rows (A.matrix a.now).cols ≤ length s.old.first }
+    requires room { (A.matrix a.now).cols ≤ length s.old.first }
     ensures ok { OnOk result (AllPass (KernelCompares (F.size f.now) (A.matrix a.now) e.now)) }
     ensures fault { IfErr result (IsFirstFailure (KernelCompares (F.size f.now) (A.matrix a.now) e.now)) }
 
-    // The basis is in the kernel, and spans it.
+    // The basis is in the kernel, is independent, and spans it.
     ensures kernel { OnOk result
         ((t : ℕ) → t < length e.now.basis
         → IsInKernel (F.size f.now) (A.matrix a.now) (vector_at e.now.basis t)) }
+    ensures independent { OnOk result
+        (IsIndependent (F.size f.now) (A.matrix a.now).cols (vector_at e.now.basis) (length e.now.basis)) }
     ensures spans { OnOk result
         ((v : ℕ → ℕ) → IsInKernel (F.size f.now) (A.matrix a.now) v
         → IsSpanned (F.size f.now) (A.matrix a.now).cols e.now v) }
     ensures scratch { length s.new.first ≡ length s.old.first }
+    ensures second { length s.new.second ≡ length s.old.second }
 {
     let first = s.first.as_mut_slice();
     let second = s.second.as_mut_slice();

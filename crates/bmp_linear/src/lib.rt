@@ -7,6 +7,7 @@
 
 pub mod blocks;
 pub mod combination;
+pub mod copies;
 pub mod dense;
 pub mod dual;
 pub mod entries;
@@ -25,6 +26,7 @@ pub mod vectors;
 
 pub use blocks::{Blocks, DegreeBlock};
 pub use combination::{check_combination, combine_rows};
+pub use copies::{row_vector, stored};
 pub use dense::DenseRows;
 pub use dual::check_dual;
 pub use entries::{add_entries, value_of};
@@ -38,6 +40,3 @@ pub use sparse::SparseRows;
 pub use turned::Turned;
 pub use vector::{Entry, Vector};
 pub use vectors::Vectors;
-
-#[cfg(test)]
-mod tests;

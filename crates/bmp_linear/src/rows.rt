@@ -1,9 +1,12 @@
 //! Rows of numbers of a field.
-ghost use Rattle.std.specs.Prelude.{◌≡◌, ◌≢◌, ℕ, ◌%◌, ◌<◌, ◌≤◌, OnOk, OnErr, IfOk};
+ghost use Rattle.std.specs.Prelude.{◌≡◌, ◌≢◌, ℕ, ◌%◌, ◌<◌, ◌≤◌, length, slice_index, OnOk, OnErr, IfOk};
 ghost use Rattle.bmp_math.specs.Matrices.{Matrix, NumbersBelow, image};
+ghost use Rattle.bmp_field.specs.Runs.{AreBelow};
 ghost use Rattle.bmp_linear.specs.SparseVectors.{FitsBelow, ValuesBelow, IsSpread, number_at};
+ghost use Rattle.bmp_linear.specs.RowVectors.{IsRowVector};
 ghost use Rattle.bmp_linear.specs.RowChanges.{IsRowPushed, IsRowAdded, IsRowMultiplied, AreRowsExchanged, HoldsNumbers, IsRowAddedTo};
 
+use crate::scratch::clear;
 use crate::vector::Vector;
 use bmp_field::Field;
 use std::alloc::AllocError;
@@ -77,6 +80,26 @@ pub trait Rows<F: Field> {
             sums[j as usize] = f.num(f.add(sum, term)) as u8;
         }
     }
+
+    /// Makes `vector` the vector of the row `i`, in a row of numbers to work in. Rows that are kept as
+    /// entries hand these out. Where memory is wanting the vector may be any.
+    fn read_row(
+        &self,
+        f: &F,
+        i: u32,
+        work: &mut [u8],
+        vector: &mut Vector,
+    ) -> Result<(), AllocError>
+        requires numbers { NumbersBelow (F.size f.now) (matrix self.now) }
+        requires row { i < (matrix self.now).rows }
+        requires room { (matrix self.now).cols ≤ length work.old }
+        ensures { OnOk result (IsRowVector (F.size f.now) (matrix self.now) i vector.new) }
+    {
+        let numbers = &mut work[..self.cols() as usize];
+        clear(numbers);
+        self.add_row_to(f, i, f.one(), numbers);
+        vector.set_numbers(numbers)
+    }
 }
 
 /// Rows in memory, which can be changed.
@@ -86,6 +109,18 @@ pub trait RowSpace<F: Field>: Rows<F> + Drop {
         requires fits { FitsBelow row.now (Self.matrix self.old).cols }
         requires values { ValuesBelow row.now (F.size f.now) }
         ensures ok { OnOk result (IsRowPushed (Self.matrix self.old) (Self.matrix self.new) (number_at row.now)) }
+        ensures numbers { NumbersBelow (F.size f.now) (Self.matrix self.old)
+            → OnOk result (NumbersBelow (F.size f.now) (Self.matrix self.new)) }
+        ensures err { OnErr result (self.new ≡ self.old) };
+
+    /// Appends the row of the numbers. Wants memory also where there are 2^32 - 1 rows.
+    fn push_numbers(&mut self, f: &F, numbers: &[u8]) -> Result<(), AllocError>
+        requires sized { length numbers.now ≡ (Self.matrix self.old).cols }
+        requires values { AreBelow (F.size f.now) numbers.now }
+        ensures ok { OnOk result
+            (IsRowPushed (Self.matrix self.old) (Self.matrix self.new) (slice_index numbers.now)) }
+        ensures numbers { NumbersBelow (F.size f.now) (Self.matrix self.old)
+            → OnOk result (NumbersBelow (F.size f.now) (Self.matrix self.new)) }
         ensures err { OnErr result (self.new ≡ self.old) };
 
     /// Adds `c` times the row `from` to the row `into`.
@@ -97,6 +132,7 @@ pub trait RowSpace<F: Field>: Rows<F> + Drop {
         requires factor { F.is_value f.now c }
         ensures ok { OnOk result
             (IsRowAdded (F.size f.now) (Self.matrix self.old) (Self.matrix self.new) into from (F.num f.now c)) }
+        ensures numbers { OnOk result (NumbersBelow (F.size f.now) (Self.matrix self.new)) }
         ensures err { OnErr result (self.new ≡ self.old) };
 
     /// Multiplies the row `i` by `c`, which isn't zero.
@@ -105,13 +141,15 @@ pub trait RowSpace<F: Field>: Rows<F> + Drop {
         requires row { i < (Self.matrix self.old).rows }
         requires factor { F.is_value f.now c }
         requires not_zero { F.num f.now c ≢ 0 }
-        ensures { IsRowMultiplied (F.size f.now) (Self.matrix self.old) (Self.matrix self.new) i (F.num f.now c) };
+        ensures multiplied { IsRowMultiplied (F.size f.now) (Self.matrix self.old) (Self.matrix self.new) i (F.num f.now c) }
+        ensures numbers { NumbersBelow (F.size f.now) (Self.matrix self.new) };
 
     /// Exchanges two rows.
     fn swap_rows(&mut self, i: u32, j: u32)
         requires first { i < (Self.matrix self.old).rows }
         requires second { j < (Self.matrix self.old).rows }
-        ensures { AreRowsExchanged (Self.matrix self.old) (Self.matrix self.new) i j };
+        ensures exchanged { AreRowsExchanged (Self.matrix self.old) (Self.matrix self.new) i j }
+        ensures numbers { (p : ℕ) → NumbersBelow p (Self.matrix self.old) → NumbersBelow p (Self.matrix self.new) };
 
     /// No rows, of `cols` columns, kept in the same way. Takes no memory.
     fn empty(&self, cols: u32) -> Self

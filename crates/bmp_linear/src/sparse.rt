@@ -5,7 +5,7 @@ ghost use Rattle.bmp_linear.specs.RowTables.{EntryTable, matrix_of_entries};
 ghost use Rattle.bmp_linear.specs.SparseVectors.{IsSparse, FitsBelow};
 
 use crate::entries::{add_entries, number_in, product, value_of};
-use crate::entry_sums::{INLINE, scale_entries, sum_of_entries};
+use crate::entry_sums::{INLINE, entries_in, scale_entries, sum_of_entries};
 use crate::rows::{RowSpace, Rows};
 use crate::vector::{Entry, Vector};
 use bmp_field::Field;
@@ -91,6 +91,19 @@ impl<F: Field> Rows<F> for SparseRows<F> {
         let row = &self.rows[i as usize];
         add_entries(f, c, row.as_slice(), sums);
     }
+
+    fn read_row(
+        &self,
+        f: &F,
+        i: u32,
+        work: &mut [u8],
+        vector: &mut Vector,
+    ) -> Result<(), AllocError> {
+        let _ = f;
+        let _ = work;
+        let row = &self.rows[i as usize];
+        vector.set_entries(row.as_slice())
+    }
 }
 
 impl<F: Field> RowSpace<F> for SparseRows<F> {
@@ -100,6 +113,16 @@ impl<F: Field> RowSpace<F> for SparseRows<F> {
             return Err(AllocError);
         }
         let entries = SmallVec::from_slice(*self.rows.allocator(), row.entries())?;
+        self.rows.push(entries)?;
+        Ok(())
+    }
+
+    fn push_numbers(&mut self, f: &F, numbers: &[u8]) -> Result<(), AllocError> {
+        let _ = f;
+        if self.rows.len() >= u32::MAX as usize {
+            return Err(AllocError);
+        }
+        let entries = entries_in(*self.rows.allocator(), numbers)?;
         self.rows.push(entries)?;
         Ok(())
     }

@@ -3,11 +3,18 @@ ghost use Rattle.bmp_math.specs.Matrices.{Matrix, turned};
 
 use crate::rows::Rows;
 use bmp_field::Field;
+use std::marker::Model;
 
-/// Rows with the rows and columns of others exchanged. Keeps no rows of its own.
+/// Rows with the rows and columns of others exchanged, seen as those others. Keeps no rows of its own.
 #[derive(Drop)]
 pub struct Turned<'a, A> {
     of: &'a A,
+}
+
+impl<'a, A> Model for Turned<'a, A> {
+    ghost Value = { A };
+
+    ghost view = { λ t. t.of.now };
 }
 
 impl<'a, A> Turned<'a, A> {
@@ -15,14 +22,14 @@ impl<'a, A> Turned<'a, A> {
 
     /// The columns of `rows`, as rows.
     pub fn of(rows: &'a A) -> Turned<'a, A>
-        ensures { result.of.now ≡ rows.now }
+        ensures { result ≡ rows.now }
     {
         Turned { of: rows }
     }
 }
 
 impl<'a, F: Field, A: Rows<F>> Rows<F> for Turned<'a, A> {
-    ghost matrix = { λ t. turned (A.matrix t.of.now) };
+    ghost matrix = { λ a. turned (A.matrix a) };
 
     fn rows(&self) -> u32 {
         self.of.cols()

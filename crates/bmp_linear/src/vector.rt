@@ -50,6 +50,15 @@ impl Vector {
         })
     }
 
+    /// The vector that is 1 at the place, and 0 elsewhere.
+    pub fn unit(alloc: Global, place: u32) -> Result<Vector, AllocError>
+        ensures { IfOk result (λ unit. unit ≡ record { place = place; value = 1 } ∷ []) }
+    {
+        let mut unit = Vector::with_capacity(alloc, 1)?;
+        unit.push(Entry { place, value: 1 })?;
+        Ok(unit)
+    }
+
     /// The vector of the numbers, each at its place.
     pub fn of_numbers(alloc: Global, numbers: &[u8]) -> Result<Vector, AllocError>
         requires { length numbers.now ≤ 2 ^ 32 }
@@ -59,15 +68,44 @@ impl Vector {
             (λ vector. (j : ℕ) → j < length numbers.now → number_at vector j ≡ slice_index numbers.now j) }
     {
         let mut vector = Vector::new(alloc);
+        vector.set_numbers(numbers)?;
+        Ok(vector)
+    }
+
+    /// Makes this the vector of the numbers, each at its place, in the room that there is. Where memory is
+    /// wanting it is the vector of the first of them.
+    pub fn set_numbers(&mut self, numbers: &[u8]) -> Result<(), AllocError>
+        requires { length numbers.now ≤ 2 ^ 32 }
+        ensures sparse { IsSparse self.new }
+        ensures fits { FitsBelow self.new (length numbers.now) }
+        ensures numbers { OnOk result
+            ((j : ℕ) → j < length numbers.now → number_at self.new j ≡ slice_index numbers.now j) }
+    {
+        self.clear();
         for (place, value) in numbers.iter().enumerate() {
             if *value != 0 {
-                vector.push(Entry {
+                self.push(Entry {
                     place: place as u32,
                     value: *value,
                 })?;
             }
         }
-        Ok(vector)
+        Ok(())
+    }
+
+    /// Makes this the vector of the entries, in the room that there is. Wants memory also where there are
+    /// 2^32 entries or more.
+    pub fn set_entries(&mut self, entries: &[Entry]) -> Result<(), AllocError>
+        requires { IsSparse entries.now }
+        ensures ok { OnOk result (self.new ≡ entries.now) }
+        ensures err { OnErr result (self.new ≡ []) }
+    {
+        self.entries.clear();
+        if entries.len() > u32::MAX as usize {
+            return Err(AllocError);
+        }
+        self.entries.extend_from_slice(entries)?;
+        Ok(())
     }
 
     /// How many entries there are.
@@ -80,7 +118,8 @@ impl Vector {
     /// The entry number `i`, from 0 on.
     pub fn at(&self, i: u32) -> Entry
         requires { i < length self.now }
-        ensures { slice_get self.now i ≡ Some result }
+        ensures entry { slice_get self.now i ≡ Some result }
+        ensures not_zero { result.value ≢ 0 }
     {
         self.entries[i as usize]
     }

@@ -1,5 +1,5 @@
 //! A list of vectors.
-ghost use Rattle.std.specs.Prelude.{◌≡◌, ◌<◌, [], ◌∷◌, ◌++◌, length, slice_index_or, OnOk, OnErr, IfOk};
+ghost use Rattle.std.specs.Prelude.{◌≡◌, ◌<◌, ◌^◌, [], ◌∷◌, ◌++◌, length, slice_index_or, OnOk, OnErr, IfOk};
 
 use crate::vector::Vector;
 use std::alloc::{AllocError, Global};
@@ -81,7 +81,8 @@ impl Vectors {
 
     /// The members, in order.
     pub fn as_slice(&self) -> &[Vector]
-        ensures { result.now ≡ self.now }
+        ensures items { result.now ≡ self.now }
+        ensures few { length result.now < 2 ^ 32 }
     {
         self.items.as_slice()
     }

@@ -2,7 +2,8 @@ pub mod CongruenceLemmas
 pub mod SumLemmas
 pub mod VectorLemmas
 pub mod MatrixLemmas
-pub mod SpanLemmas
+pub mod UnitLemmas
+pub mod SameMatrices
 pub mod IntegerLemmas
 pub mod IntegerSumLemmas
 pub mod ListLemmas

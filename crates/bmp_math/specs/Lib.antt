@@ -2,7 +2,6 @@ pub mod Sums
 pub mod Congruences
 pub mod Vectors
 pub mod Matrices
-pub mod Spans
 pub mod Integers
 pub mod IntegerSums
 pub mod Lists

@@ -4,10 +4,12 @@
 --   combination c vs n    c 0 * vs 0 + .. + c (n - 1) * vs (n - 1), a vector
 --   image a v             what each row of a says of v, a vector
 --   IsInKernel p a v      each row of a says 0 of v, modulo p
-use Rattle.std.specs.Prelude.{ℕ, ◌*◌, ◌<◌}
+--   IsIndependent p m vs n    no combination of the first n vectors is 0 at m places modulo p, but that with factors 0
+--   SameMatrix a b        equal sizes, and equal numbers below them
+use Rattle.std.specs.Prelude.{◌≡◌, ℕ, ◌*◌, ◌<◌}
 use Rattle.bmp_math.specs.Sums.{sum_below}
 use Rattle.bmp_math.specs.Congruences.{SameMod}
-use Rattle.bmp_math.specs.Vectors.{dot}
+use Rattle.bmp_math.specs.Vectors.{SameVector, dot}
 
 pub record Matrix : Type 0 where
   pub rows : ℕ
@@ -32,3 +34,13 @@ image a v i = dot a.cols v (a.entry i)
 -- each row says 0 of v
 abbrev pub IsInKernel : ℕ → Matrix → (ℕ → ℕ) → Type 0
 IsInKernel p a v = (i : ℕ) → i < a.rows → SameMod p (image a v i) 0
+
+-- a combination of the first n vectors that is 0 at m places has the factors 0
+abbrev pub IsIndependent : ℕ → ℕ → (ℕ → ℕ → ℕ) → ℕ → Type 0
+IsIndependent p m vs n = (c : ℕ → ℕ) → SameVector p m (combination c vs n) (λ j. 0) → SameVector p n c (λ i. 0)
+
+-- equal sizes, and equal numbers below them
+pub record SameMatrix (a b : Matrix) : Type 0 where
+  pub rows : a.rows ≡ b.rows
+  pub cols : a.cols ≡ b.cols
+  pub entries : (i j : ℕ) → i < b.rows → j < b.cols → a.entry i j ≡ b.entry i j

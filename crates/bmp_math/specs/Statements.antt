@@ -5,13 +5,11 @@
 --   FormsMove                 a combination of the rows, taken at v, is the combination of what the rows say of v
 --   CombinationsCompose       a combination of combinations is a combination
 --   AgreementOnUnits          linear maps that agree on the units agree
---   VanishingOnSpans          a form that is 0 on vectors is 0 on what they span
-use Rattle.std.specs.Prelude.{◌≡◌, ℕ, ◌+◌, ◌<◌, List}
+use Rattle.std.specs.Prelude.{◌≡◌, ℕ, ◌+◌, ◌<◌}
 use Rattle.bmp_math.specs.Sums.{sum_below}
 use Rattle.bmp_math.specs.Congruences.{SameMod}
 use Rattle.bmp_math.specs.Vectors.{SameVector, unit, dot, IsLinear}
 use Rattle.bmp_math.specs.Matrices.{Matrix, combination, image}
-use Rattle.bmp_math.specs.Spans.{Term, Each, total}
 
 abbrev pub SumsExchange : Type 0
 SumsExchange = (f : ℕ → ℕ → ℕ) (m n : ℕ) → sum_below (λ i. sum_below (λ j. f i j) n) m ≡ sum_below (λ j. sum_below (λ i. f i j) m) n
@@ -34,8 +32,3 @@ abbrev pub AgreementOnUnits : Type 0
 AgreementOnUnits =
     (p n m : ℕ) (f g : (ℕ → ℕ) → ℕ → ℕ) → IsLinear p n m f → IsLinear p n m g →
     ((i : ℕ) → i < n → SameVector p m (f (unit i)) (g (unit i))) → (v : ℕ → ℕ) → SameVector p m (f v) (g v)
-
-abbrev pub VanishingOnSpans : Type 0
-VanishingOnSpans =
-    (p n : ℕ) (form : ℕ → ℕ) (terms : List Term) →
-    Each (λ v. SameMod p (dot n form v) 0) terms → SameMod p (dot n form (total terms)) 0

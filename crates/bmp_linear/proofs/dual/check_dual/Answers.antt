@@ -1,5 +1,5 @@
 use Rattle.std.proofs.Common.{rules, sym, ◌∙◌, below_more}
-use Rattle.bmp_linear.proofs.RowCheckLemmas.{dual_all, dual_fails}
+use Rattle.bmp_linear.proofs.RowCheckLemmas.{dual_all, dual_holds, dual_fails}
 use Rattle.bmp_linear.proofs.dual.check_dual.Goals as goal
 
 pub loop-i-preserved : goal.loop-i-preserved
@@ -13,3 +13,9 @@ returns-then-left-right-clause-fault g c =
 
 pub returns-clause-ok : goal.returns-clause-ok
 returns-clause-ok g c = dual_all (g.F.Field.size c.args.f.now) (g.A.Rows.matrix c.args.a.now) c.args.form.now c.args.own c.loop-i.i (search rules) c.loop-i.invariant
+
+pub returns-clause-dual : goal.returns-clause-dual
+returns-clause-dual g c =
+    dual_holds (g.F.Field.size c.args.f.now) (g.A.Rows.matrix c.args.a.now) c.args.form.now c.args.own
+    (dual_all (g.F.Field.size c.args.f.now) (g.A.Rows.matrix c.args.a.now) c.args.form.now c.args.own c.loop-i.i
+    (search rules) c.loop-i.invariant)

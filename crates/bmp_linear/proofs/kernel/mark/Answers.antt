@@ -9,5 +9,5 @@ loop-place-preserved c = marked_more c.as_slice-place-items.result.now c.loop-pl
 
 pub returns : goal.returns
 returns c =
-    let items = c.as_slice-place-items.ensures in
+    let items = c.as_slice-place-items.ensures.items in
     rw (← items) (marked_all c.as_slice-place-items.result.now c.loop-place.marks c.loop-place.place-index c.loop-place-test.false c.loop-place.invariant)

@@ -1,5 +1,7 @@
+use Rattle.std.proofs.Common.{◌<◌, arith}
 use Rattle.bmp_linear.proofs.SparseRowLemmas.{sparse_row}
 use Rattle.bmp_linear.proofs.SparseRowChangeLemmas.{sum_sparse, row_sum}
+use Rattle.bmp_linear.proofs.RowChangeLemmas.{numbers_below-added}
 use Rattle.bmp_linear.proofs.sparse.SparseRowsRowSpace.add_row.Goals as goal
 
 pub sum_of_entries-requires-clause-first_values : goal.sum_of_entries-requires-clause-first_values
@@ -27,3 +29,10 @@ returns-clause-ok g c =
     let second = sparse_row p c.args.self.now c.self.inside.cols c.self.inside.rows.items c.args.from c.index-2.result.now c.as_slice-second.result.now c.self.view_is c.self.invariant.2 c.self.invariant.3 c.requires.from c.index-2.ensures c.as_slice-second.ensures c.requires.numbers in
     row_sum c.args.self.now c.self.inside.cols c.self.inside.rows.items c.self.view_is c.args.into c.in_ok-sum.sum c.requires.into p (g.F.Field.num c.args.f.now c.args.c) c.args.from c.as_slice-first.result.now c.as_slice-second.result.now
     first second c.in_ok-sum.ensures
+
+pub returns-clause-numbers : goal.returns-clause-numbers
+returns-clause-numbers g c =
+    let two = g.met.F.Field.laws.at_least_two c.args.f.now in
+    let some : 0 < g.F.Field.size c.args.f.now = omega (arith, two) in
+    numbers_below-added (g.F.Field.size c.args.f.now) _ _ c.args.into c.args.from _ some c.requires.numbers
+    (returns-clause-ok g c)

@@ -1,6 +1,6 @@
 use Rattle.bmp_linear.proofs.GatherLemmas.{IsGathered}
-use Rattle.bmp_linear.proofs.vector.Vector.of_numbers.Given as goal
+use Rattle.bmp_linear.proofs.entry_sums.entries_in.Given as goal
 
 -- the numbers so far
 abbrev pub invariant-loop-place : goal.invariant-loop-place
-invariant-loop-place l = IsGathered l.numbers l.place l.vector
+invariant-loop-place l = IsGathered l.numbers l.place l.entries.items
