@@ -1,18 +1,17 @@
 -- Reduced rows with a trace give kernel evidence whose comparisons all pass.
-use Rattle.std.proofs.Common.{◌≡◌, ◌≢◌, ℕ, ◌+◌, ◌*◌, ◌%◌, ◌<◌, ◌≤◌, List, [], length, get_or, inl, inr, refl, sym, ap, ◌∙◌, subst, arith}
+use Rattle.std.proofs.Common.{◌≡◌, ℕ, ◌+◌, ◌*◌, ◌%◌, ◌<◌, ◌≤◌, List, [], length, get_or, inl, inr, sym, ap, ◌∙◌, subst, arith}
 use Rattle.std.specs.List.Sorted.{IsStrictlyIncreasing}
 use Rattle.std.specs.List.{All}
 use Rattle.std.proofs.Math.Nat.{mod-eq_of_lt, zero-mod}
 use Rattle.std.proofs.lemmas.Bool.{cases_eq}
 use Rattle.std.proofs.lemmas.List.{get_or_default}
-use Rattle.bmp_math.specs.Congruences.{SameMod}
 use Rattle.bmp_math.specs.Vectors.{unit}
-use Rattle.bmp_math.specs.Matrices.{Matrix, combination, image, IsInKernel}
+use Rattle.bmp_math.specs.Matrices.{Matrix, combination, IsInKernel}
 use Rattle.bmp_math.proofs.SumLemmas.{sum_below_same}
 use Rattle.bmp_linear.specs.declared.vector.Entry.{Entry}
 use Rattle.bmp_linear.specs.declared.evidence.KernelEvidence.{KernelEvidence}
-use Rattle.bmp_linear.specs.SparseVectors.{FitsBelow, ValuesBelow, number_at}
-use Rattle.bmp_linear.specs.FreePlaces.{has_place, free_places}
+use Rattle.bmp_linear.specs.SparseVectors.{FitsBelow, ValuesBelow}
+use Rattle.bmp_linear.specs.FreePlaces.{free_places}
 use Rattle.bmp_linear.specs.Faults.{AllPass}
 use Rattle.bmp_linear.specs.Evidence.{EvidenceFits, EvidenceBelow, vector_at}
 use Rattle.bmp_linear.specs.KernelChecks.{KernelCompares}
@@ -20,9 +19,10 @@ use Rattle.bmp_linear.proofs.ShapeLemmas.{all_from_index}
 use Rattle.bmp_linear.proofs.FreeLemmas.{length-free_places}
 use Rattle.bmp_elim.specs.Echelons.{IsEchelon, IsReducedBelow}
 use Rattle.bmp_elim.specs.Traces.{IsTrace}
-use Rattle.bmp_elim.specs.RowVectors.{IsRowVector, AreRowVectors}
+use Rattle.bmp_linear.specs.RowVectors.{IsRowVector}
+use Rattle.bmp_elim.specs.RowVectors.{AreRowVectors}
 use Rattle.bmp_elim.specs.FreeVectors.{IsFreeVector, IsBasisBelow}
-use Rattle.bmp_elim.proofs.UnitLemmas.{unit_same, unit_other}
+use Rattle.bmp_math.proofs.UnitLemmas.{unit_same, unit_other}
 use Rattle.bmp_elim.proofs.EndLemmas.{free_vector_image, trace_at_pivot}
 use Rattle.bmp_elim.proofs.FreeVectorLemmas.{IsFreePlace, free_place, not_place}
 

@@ -9,7 +9,7 @@ use Rattle.bmp_linear.specs.declared.vector.Entry.{Entry}
 use Rattle.bmp_linear.specs.SparseVectors.{FitsBelow, number_at}
 use Rattle.bmp_linear.specs.FreePlaces.{has_place, free_places}
 use Rattle.bmp_linear.proofs.SparseLemmas.{number_at-push_same, number_at-push_other}
-use Rattle.bmp_linear.proofs.FreeLemmas.{free_more_pivot, free_more_free, free_at}
+use Rattle.bmp_linear.proofs.FreeLemmas.{free_more_pivot, free_more_free}
 use Rattle.bmp_linear.proofs.KernelSpans.{place_found}
 use Rattle.bmp_elim.specs.Echelons.{IsEchelon}
 use Rattle.bmp_elim.specs.FreeVectors.{IsPlacedBelow, IsCountBelow, IsFreeVector, IsBasisBelow}

@@ -1,4 +1,3 @@
-pub mod UnitLemmas
 pub mod Mixes
 pub mod TraceLemmas
 pub mod ColumnLemmas
@@ -11,3 +10,7 @@ pub mod FreeVectorLemmas
 pub mod EvidenceLemmas
 pub mod SystemLemmas
 pub mod JoinedLemmas
+pub mod FieldLemmas
+pub mod ReducedFormLemmas
+pub mod LawLemmas
+pub mod KeptColumnLemmas

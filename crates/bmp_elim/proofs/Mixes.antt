@@ -3,7 +3,6 @@ use Rattle.std.proofs.Common.{◌≡◌, ◌≢◌, ℕ, ◌+◌, ◌*◌, ◌%�
 use Rattle.std.proofs.Math.Nat.{mod-mod}
 use Rattle.std.proofs.lemmas.Bool.{cases_eq, cond-true, cond-false}
 use Rattle.bmp_math.specs.Congruences.{SameMod}
-use Rattle.bmp_math.specs.Vectors.{dot}
 use Rattle.bmp_math.specs.Matrices.{Matrix, combination, image}
 use Rattle.bmp_math.proofs.CongruenceLemmas.{same_add, same_mul, mul_zero, one_mul}
 use Rattle.bmp_math.proofs.SumLemmas.{sum_below_same, sum_below-add, sum_below-mul}
@@ -105,17 +104,17 @@ multiplied_mixed p old new row c h = record {
   ];
 }
 
-other_row-first : (r s : ℕ) → other_row r s r ≡ s
+pub other_row-first : (r s : ℕ) → other_row r s r ≡ s
 other_row-first r s = cond-true {A = ℕ} (eqb r r) s (cond (eqb r s) r r) (eq-eqb r r refl)
 
-other_row-second : (r s : ℕ) → other_row r s s ≡ r
+pub other_row-second : (r s : ℕ) → other_row r s s ≡ r
 other_row-second r s =
     elim (cases_eq s r) [
       | inl same ↦ cond-true {A = ℕ} (eqb s r) s (cond (eqb s s) r s) (eq-eqb s r same) ∙ same
       | inr other ↦ cond-false {A = ℕ} (eqb s r) s (cond (eqb s s) r s) (ne_eqb s r other) ∙ cond-true {A = ℕ} (eqb s s) r s (eq-eqb s s refl)
     ]
 
-other_row-none : (r s i : ℕ) → i ≢ r → i ≢ s → other_row r s i ≡ i
+pub other_row-none : (r s i : ℕ) → i ≢ r → i ≢ s → other_row r s i ≡ i
 other_row-none r s i a b = cond-false {A = ℕ} (eqb i r) s (cond (eqb i s) r i) (ne_eqb i r a) ∙ cond-false {A = ℕ} (eqb i s) r i (ne_eqb i s b)
 
 pub exchanged_mixed : (p : ℕ) (old new : Matrix) (r s : ℕ) → AreRowsExchanged old new r s → AreMixed p (exchanged_mix r s) old new

@@ -1,46 +1,17 @@
 -- The steps of elimination keep what holds of the rows and of what is changed alike.
-use Rattle.std.proofs.Common.{◌≡◌, ◌≢◌, ℕ, ◌+◌, ◌*◌, ◌%◌, ◌<◌, ◌≤◌, List, [], ◌∷◌, ◌++◌, length, inl, inr, refl, sym, ap, ◌∙◌, subst, arith, mod-lt}
+use Rattle.std.proofs.Common.{◌≡◌, ◌≢◌, ℕ, ◌+◌, ◌*◌, ◌%◌, ◌<◌, ◌≤◌, List, [], ◌∷◌, ◌++◌, length, inl, inr, refl, sym, ap, ◌∙◌, subst, arith}
 use Rattle.std.proofs.Math.Nat.{mod-eq_of_lt}
 use Rattle.std.proofs.lemmas.Bool.{cases_eq}
 use Rattle.std.specs.Prelude.{slice_index}
 use Rattle.bmp_math.specs.Congruences.{SameMod}
 use Rattle.bmp_math.specs.Matrices.{Matrix, NumbersBelow}
 use Rattle.bmp_linear.specs.RowChanges.{IsRowAdded, IsRowMultiplied, AreRowsExchanged}
+use Rattle.bmp_linear.proofs.RowChangeLemmas.{numbers_below-added, numbers_below-multiplied, numbers_below-exchanged}
 use Rattle.bmp_elim.specs.Echelons.{IsEchelon, IsReducedBelow}
-use Rattle.bmp_elim.specs.Traces.{IsTrace, HasTrace, AreChangedAlike, AreUnits}
+use Rattle.bmp_elim.specs.Traces.{IsTrace, HasTrace, AreUnits}
 use Rattle.bmp_elim.specs.Steps.{IsKept, IsColumnCleared, IsZeroFrom, IsFound, IsEliminated}
 use Rattle.bmp_elim.proofs.TraceLemmas.{alike_added, alike_multiplied, alike_exchanged, alike_start, trace_from_units}
 use Rattle.bmp_elim.proofs.ColumnLemmas.{reduced_added, reduced_multiplied, reduced_exchanged, reduced_without, reduced_push, reduced_start}
-
-numbers_added : (p : ℕ) (old new : Matrix) (into from c : ℕ) → 0 < p → NumbersBelow p old → IsRowAdded p old new into from c → NumbersBelow p new
-numbers_added p old new into from c positive below h i j l m =
-    let row : i < old.rows = omega (arith, h.rows) in
-    let column : j < old.cols = omega (arith, h.cols) in
-    elim (cases_eq i into) [
-      | inl same ↦ rw (same, h.added j column) (mod-lt (old.entry into j + c * old.entry from j) positive)
-      | inr other ↦ rw (h.others i j row column other) (below i j row column)
-    ]
-
-numbers_multiplied : (p : ℕ) (old new : Matrix) (row c : ℕ) → 0 < p → NumbersBelow p old → IsRowMultiplied p old new row c → NumbersBelow p new
-numbers_multiplied p old new r c positive below h i j l m =
-    let row : i < old.rows = omega (arith, h.rows) in
-    let column : j < old.cols = omega (arith, h.cols) in
-    elim (cases_eq i r) [
-      | inl same ↦ rw (same, h.multiplied j column) (mod-lt (c * old.entry r j) positive)
-      | inr other ↦ rw (h.others i j row column other) (below i j row column)
-    ]
-
-numbers_exchanged : (p : ℕ) (old new : Matrix) (r s : ℕ) → r < old.rows → s < old.rows → NumbersBelow p old → AreRowsExchanged old new r s → NumbersBelow p new
-numbers_exchanged p old new r s r_below s_below below h i j l m =
-    let row : i < old.rows = omega (arith, h.rows) in
-    let column : j < old.cols = omega (arith, h.cols) in
-    elim (cases_eq i r) [
-      | inl first ↦ rw (first, h.at_first j column) (below s j s_below column)
-      | inr other ↦ elim (cases_eq i s) [
-        | inl second ↦ rw (second, h.at_second j column) (below r j r_below column)
-        | inr away ↦ rw (h.others i j row column other away) (below i j row column)
-      ]
-    ]
 
 pub kept_start : (p col count : ℕ) (a t : Matrix) → NumbersBelow p a → NumbersBelow p t → IsKept p col count a a t t
 kept_start p col count a t numbers other_numbers = record {
@@ -69,8 +40,8 @@ kept_added p col count a new_a t new_t into from c positive narrow numbers other
   rows = x.rows;
   cols = x.cols;
   other_rows = y.rows;
-  numbers = numbers_added p a new_a into from c positive numbers x;
-  other_numbers = numbers_added p t new_t into from c positive other_numbers y;
+  numbers = numbers_below-added p a new_a into from c positive numbers x;
+  other_numbers = numbers_below-added p t new_t into from c positive other_numbers y;
   alike = λ old_a old_t h. alike_added p old_a a new_a old_t t new_t h into from c (rw (← h.first.rows) below) apart x y;
   reduced = λ pivot h. reduced_added col a new_a count pivot h p into from c narrow numbers late below x;
 }
@@ -80,8 +51,8 @@ kept_multiplied p col count a new_a t new_t row c d positive narrow numbers othe
   rows = x.rows;
   cols = x.cols;
   other_rows = y.rows;
-  numbers = numbers_multiplied p a new_a row c positive numbers x;
-  other_numbers = numbers_multiplied p t new_t row c positive other_numbers y;
+  numbers = numbers_below-multiplied p a new_a row c positive numbers x;
+  other_numbers = numbers_below-multiplied p t new_t row c positive other_numbers y;
   alike = λ old_a old_t h. alike_multiplied p old_a a new_a old_t t new_t h row c d (rw (← h.first.rows) below) inverse x y;
   reduced = λ pivot h. reduced_multiplied col a new_a count pivot h p row c positive narrow late below x;
 }
@@ -91,8 +62,8 @@ kept_exchanged p col count a new_a t new_t r s narrow numbers other_numbers squa
   rows = x.rows;
   cols = x.cols;
   other_rows = y.rows;
-  numbers = numbers_exchanged p a new_a r s r_below s_below numbers x;
-  other_numbers = numbers_exchanged p t new_t r s (rw square r_below) (rw square s_below) other_numbers y;
+  numbers = numbers_below-exchanged p a new_a r s r_below s_below numbers x;
+  other_numbers = numbers_below-exchanged p t new_t r s (rw square r_below) (rw square s_below) other_numbers y;
   alike = λ old_a old_t h. alike_exchanged p old_a a new_a old_t t new_t h r s (rw (← h.first.rows) r_below) (rw (← h.first.rows) s_below) x y;
   reduced = λ pivot h. reduced_exchanged col a new_a count pivot h r s narrow r_late r_below s_late s_below x;
 }

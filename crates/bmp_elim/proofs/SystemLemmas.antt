@@ -1,17 +1,16 @@
 -- Reduced rows with a trace give a solution, or numbers that refuse one.
-use Rattle.std.proofs.Common.{◌≡◌, ◌≢◌, ℕ, zero, suc, ◌+◌, ◌*◌, ◌%◌, ◌<◌, ◌≤◌, List, length, get_or, refl, sym, ap, ◌∙◌, subst, arith}
+use Rattle.std.proofs.Common.{◌≡◌, ℕ, zero, suc, ◌*◌, ◌%◌, ◌<◌, ◌≤◌, List, length, get_or, sym, ap, ◌∙◌, subst, arith}
 use Rattle.std.proofs.Math.Nat.{mod-mod, zero-mod}
-use Rattle.bmp_math.specs.Congruences.{SameMod}
 use Rattle.bmp_math.specs.Vectors.{dot}
-use Rattle.bmp_math.specs.Matrices.{Matrix, combination, image}
+use Rattle.bmp_math.specs.Matrices.{Matrix, image}
 use Rattle.bmp_math.proofs.SumLemmas.{sum_below_same}
 use Rattle.bmp_linear.specs.declared.vector.Entry.{Entry}
 use Rattle.bmp_linear.specs.SparseVectors.{number_at}
 use Rattle.bmp_linear.proofs.EntrySums.{products_turned}
 use Rattle.bmp_elim.specs.Echelons.{IsEchelon, IsReducedBelow}
 use Rattle.bmp_elim.specs.Traces.{IsTrace}
-use Rattle.bmp_elim.specs.Systems.{Solves, HasSolution, Refuses, IsSolution, IsObstruction}
-use Rattle.bmp_elim.specs.RowVectors.{IsRowVector}
+use Rattle.bmp_elim.specs.Systems.{HasSolution, IsSolution, IsObstruction}
+use Rattle.bmp_linear.specs.RowVectors.{IsRowVector}
 use Rattle.bmp_elim.specs.Images.{SaysZeroFrom, SaysOther, HasImages}
 use Rattle.bmp_elim.proofs.EndLemmas.{solution, trace_late, refused_unsolved}
 

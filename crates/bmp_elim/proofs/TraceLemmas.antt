@@ -1,14 +1,14 @@
 -- A change of rows, made to the rows and to others alike, keeps the trace.
-use Rattle.std.proofs.Common.{◌≡◌, ◌≢◌, ℕ, ◌*◌, ◌%◌, ◌<◌, refl, sym, ap, ◌∙◌, subst, arith}
+use Rattle.std.proofs.Common.{◌≡◌, ◌≢◌, ℕ, ◌*◌, ◌%◌, ◌<◌, refl, sym, ap, ◌∙◌, subst}
 use Rattle.bmp_math.specs.Congruences.{SameMod}
-use Rattle.bmp_math.specs.Vectors.{SameVector, unit}
+use Rattle.bmp_math.specs.Vectors.{unit}
 use Rattle.bmp_math.specs.Matrices.{Matrix, combination, image, IsInKernel}
 use Rattle.bmp_math.proofs.CongruenceLemmas.{same_mul}
 use Rattle.bmp_math.proofs.SumLemmas.{sum_below_same, sum_same_mod}
 use Rattle.bmp_linear.specs.RowChanges.{IsRowAdded, IsRowMultiplied, AreRowsExchanged}
 use Rattle.bmp_elim.specs.Traces.{IsTrace, HasTrace, AreChangedAlike, AreUnits}
-use Rattle.bmp_elim.proofs.UnitLemmas.{unit_rows, unit_combination, combination_unit, image_unit}
-use Rattle.bmp_elim.proofs.Mixes.{Mix, mixed, mixed_value, AreMixed, IsFaithfulMix, mixed-combination, mixed-image, mixed_same, added_mix, added_mixed, added_faithful, multiplied_mix, multiplied_mixed, multiplied_faithful, exchanged_mix, exchanged_mixed, exchanged_faithful}
+use Rattle.bmp_math.proofs.UnitLemmas.{unit_rows, unit_combination, combination_unit, image_unit}
+use Rattle.bmp_elim.proofs.Mixes.{Mix, mixed, AreMixed, IsFaithfulMix, mixed-combination, mixed-image, mixed_same, added_mix, added_mixed, added_faithful, multiplied_mix, multiplied_mixed, multiplied_faithful, exchanged_mix, exchanged_mixed, exchanged_faithful}
 
 -- the trace is mixed as the rows are
 trace_mixed : (p : ℕ) (old a new t : Matrix) (mix : Mix) → IsFaithfulMix p old.rows mix → AreMixed p mix a new → IsTrace p old a t → IsTrace p old new (mixed mix t)

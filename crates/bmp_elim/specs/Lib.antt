@@ -7,3 +7,6 @@ pub mod RowVectors
 pub mod FreeVectors
 pub mod Images
 pub mod Columns
+pub mod Laws
+pub mod KeptColumns
+pub mod Eliminations

@@ -1,24 +1,25 @@
 //! Rows that extend a span.
 ghost use Rattle.std.specs.Prelude.{◌≡◌, ℕ, ◌+◌, ◌^◌, ◌<◌, ◌≤◌, length, slice_index, IfOk};
-ghost use Rattle.std.specs.List.Sorted.{IsStrictlyIncreasing};
 ghost use Rattle.bmp_math.specs.Matrices.{Matrix, NumbersBelow};
-ghost use Rattle.bmp_elim.specs.Columns.{IsJoinedColumn, AreJoinedColumns, AreShifted};
-ghost use Rattle.bmp_elim.specs.Extensions.{AreChosen, AreDual, IsCombination};
-ghost use Rattle.bmp_elim.specs.FreeVectors.{IsCountBelow};
+ghost use Rattle.bmp_elim.specs.Columns.{IsJoinedColumn, AreJoinedColumns};
+ghost use Rattle.bmp_elim.specs.Extensions.{AreChosen, AreDual, IsCombination, HasCombinations};
 
-use crate::eliminate::eliminate;
-use crate::row_vectors::row_vectors;
-use crate::unit_rows::unit_rows;
+use crate::columns::extend_columns;
 use bmp_field::Field;
 use bmp_linear::{Places, RowSpace, Rows, Vector, Vectors};
 use std::alloc::{AllocError, Global};
 
-/// Rows that are a basis modulo a span, by their numbers, and for each a form that is 1 on it and 0 on
-/// the others and on the span.
+/// Rows that are a basis modulo a span, and how they and the span's rows combine to the others.
 #[derive(Debug, Drop)]
 pub struct Extension {
+    /// The numbers of the chosen rows, rising.
     pub chosen: Places,
+    /// For each chosen row a form, with a number a column: 1 on it, and 0 on the other chosen rows and on
+    /// the span.
     pub duals: Vectors,
+    /// For each row, chosen or not, the numbers that write it: first one for each row of the span, then
+    /// one for each chosen row.
+    pub combinations: Vectors,
 }
 
 /// Writes a column from the place `from` on.
@@ -82,33 +83,9 @@ fn joined_columns<F: Field, A: RowSpace<F>>(
     Ok(columns)
 }
 
-/// How many of the places are below `n`.
-fn count_below(places: &Places, n: u32) -> u32
-    requires { IsStrictlyIncreasing places.now }
-    ensures { IsCountBelow places.now n result }
-{
-    let mut count = 0;
-    while count < places.len() && places.at(count) < n {
-        count += 1;
-    }
-    count
-}
-
-/// The places from number `from` on, less `first`.
-fn shifted(alloc: Global, places: &Places, from: u32, first: u32) -> Result<Places, AllocError>
-    requires within { from ≤ length places.now }
-    requires above { (k : ℕ) → from ≤ k → k < length places.now → first ≤ slice_index places.now k }
-    ensures { IfOk result (AreShifted places.now from first) }
-{
-    let mut shifted = Places::with_capacity(alloc, (places.len() - from) as usize)?;
-    for k in from..places.len() {
-        shifted.push(places.at(k) - first)?;
-    }
-    Ok(shifted)
-}
-
-/// Chooses rows of `vectors` that are a basis of theirs modulo the span of the rows of `span`. Wants
-/// memory also where there are 2^32 rows or more in all.
+/// Chooses rows of `vectors` that are a basis of theirs modulo the span of the rows of `span`, which have
+/// as many columns. One elimination of all columns tells. Wants memory also where there are 2^32 rows or
+/// more in all.
 pub fn extend_basis<F: Field, A: RowSpace<F>>(
     alloc: Global,
     f: &F,
@@ -124,12 +101,14 @@ pub fn extend_basis<F: Field, A: RowSpace<F>>(
     ensures spans { IfOk result (λ e. (i : ℕ) → i < (A.matrix vectors.now).rows
         → IsCombination (F.size f.now) (A.matrix span.now) (A.matrix vectors.now) e.chosen
         ((A.matrix vectors.now).entry i)) }
+    ensures combinations { IfOk result
+        (λ e. HasCombinations (F.size f.now) (A.matrix span.now) (A.matrix vectors.now) e.chosen e.combinations) }
 {
-    let mut columns = joined_columns(alloc, f, span, vectors)?;
-    let mut trace = unit_rows(alloc, f, span, span.cols())?;
-    let pivots = eliminate(alloc, f, &mut columns, &mut trace)?;
-    let from = count_below(&pivots, span.rows());
-    let chosen = shifted(alloc, &pivots, from, span.rows())?;
-    let duals = row_vectors(alloc, f, &trace, from, pivots.len())?;
-    Ok(Extension { chosen, duals })
+    let columns = joined_columns(alloc, f, span, vectors)?;
+    let extension = extend_columns(alloc, f, columns, span.rows())?;
+    Ok(Extension {
+        chosen: extension.chosen,
+        duals: extension.duals,
+        combinations: extension.sums,
+    })
 }

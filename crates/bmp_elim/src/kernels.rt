@@ -1,15 +1,13 @@
 //! What rows send to 0.
 ghost use Rattle.std.specs.Prelude.{◌≡◌, ◌≢◌, ◌<◌, ◌↔◌, IsTrue, ℕ, length, slice_index, IfOk};
-ghost use Rattle.bmp_math.specs.Matrices.{Matrix, NumbersBelow};
-ghost use Rattle.bmp_linear.specs.Evidence.{EvidenceFits, EvidenceBelow};
+ghost use Rattle.bmp_math.specs.Matrices.{Matrix, NumbersBelow, IsInKernel, IsIndependent};
+ghost use Rattle.bmp_linear.specs.Evidence.{EvidenceFits, EvidenceBelow, vector_at};
 ghost use Rattle.bmp_linear.specs.Faults.{AllPass};
-ghost use Rattle.bmp_linear.specs.KernelChecks.{KernelCompares};
+ghost use Rattle.bmp_linear.specs.KernelChecks.{KernelCompares, IsSpanned};
 ghost use Rattle.bmp_elim.specs.Echelons.{IsEchelon};
 ghost use Rattle.bmp_elim.specs.FreeVectors.{IsCountBelow, IsFreeVector, IsBasisBelow};
 
-use crate::eliminate::eliminate;
-use crate::row_vectors::row_vectors;
-use crate::unit_rows::unit_rows;
+use crate::eliminated::{eliminate_rows, evidence_by};
 use bmp_field::Field;
 use bmp_linear::{Entry, KernelEvidence, Places, RowSpace, Rows, Vector, Vectors};
 use std::alloc::{AllocError, Global};
@@ -55,7 +53,7 @@ fn is_next(pivots: &Places, next: u32, place: u32) -> bool
 }
 
 /// The vectors of the free places, in rising order.
-fn free_vectors<F: Field, A: Rows<F>>(
+pub(crate) fn free_vectors<F: Field, A: Rows<F>>(
     alloc: Global,
     f: &F,
     a: &A,
@@ -78,7 +76,8 @@ fn free_vectors<F: Field, A: Rows<F>>(
 }
 
 /// A basis of what the rows send to 0, with evidence that it spans that: the pivots, and for each pivot a
-/// combination of the rows that is 1 there and 0 at the others. `check_kernel` accepts it.
+/// combination of the rows that is 1 there and 0 at the others. A basis vector has a place a column, and a
+/// combination a place a row. `check_kernel` accepts it.
 pub fn kernel<F: Field, A: RowSpace<F>>(
     alloc: Global,
     f: &F,
@@ -88,15 +87,15 @@ pub fn kernel<F: Field, A: RowSpace<F>>(
     ensures fits { IfOk result (λ e. EvidenceFits e (A.matrix a.now).rows (A.matrix a.now).cols) }
     ensures values { IfOk result (λ e. EvidenceBelow e (F.size f.now)) }
     ensures passes { IfOk result (λ e. AllPass (KernelCompares (F.size f.now) (A.matrix a.now) e)) }
+    ensures kernel { IfOk result (λ e. (t : ℕ) → t < length e.basis
+        → IsInKernel (F.size f.now) (A.matrix a.now) (vector_at e.basis t)) }
+    ensures independent { IfOk result
+        (λ e. IsIndependent (F.size f.now) (A.matrix a.now).cols (vector_at e.basis) (length e.basis)) }
+    ensures spans { IfOk result (λ e. (v : ℕ → ℕ) → IsInKernel (F.size f.now) (A.matrix a.now) v
+        → IsSpanned (F.size f.now) (A.matrix a.now).cols e v) }
 {
-    let mut rows = a.copy()?;
-    let mut trace = unit_rows(alloc, f, a, a.rows())?;
-    let pivots = eliminate(alloc, f, &mut rows, &mut trace)?;
-    let basis = free_vectors(alloc, f, &rows, &pivots)?;
-    let combinations = row_vectors(alloc, f, &trace, 0, pivots.len())?;
-    Ok(KernelEvidence {
-        pivots,
-        basis,
-        rows: combinations,
-    })
+    let rows = a.copy()?;
+    let eliminated = eliminate_rows(alloc, f, rows)?;
+    let evidence = evidence_by(alloc, f, &eliminated)?;
+    Ok(evidence)
 }

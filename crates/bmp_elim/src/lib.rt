@@ -1,26 +1,28 @@
 //! Elimination with a trace, over any field and any rows in memory.
 //!
 //! `reduce` brings rows to reduced echelon form and says how: its trace times the old rows gives the new
-//! ones, and loses nothing. `echelon` does the same and keeps no trace. From a trace follow the other
-//! calls: `kernel` (what rows send to 0, with evidence that `check_kernel` of bmp_linear accepts), `solve` (a solution, or
-//! a form that shows that there is none) and `extend_basis` (rows that extend a span, with dual forms).
-//! The one refusal of each call is want of memory.
+//! ones, and loses nothing. `echelon` does the same and keeps no trace. An elimination that is kept
+//! (`eliminate_rows`) answers many questions: any number of right sides (`solve_by`), and what the rows
+//! send to 0, with evidence that `check_kernel` of bmp_linear accepts (`evidence_by`); `solve` and `kernel`
+//! ask one of these. `extend_columns` chooses columns that extend what the first ones span, with dual forms
+//! and the sums that write every column; `extend_basis` does that for rows.
+//! The one refusal of each call is want of memory. The laws hold without any memory.
 #![tactic(auto)]
 
+pub mod columns;
 mod eliminate;
+pub mod eliminated;
 pub mod extensions;
 pub mod kernels;
+pub mod laws;
 pub mod reduction;
 mod row_vectors;
 pub mod systems;
 mod unit_rows;
 
+pub use columns::{ColumnExtension, extend_columns};
+pub use eliminated::{Eliminated, eliminate_rows, evidence_by, solve_by};
 pub use extensions::{Extension, extend_basis};
 pub use kernels::kernel;
 pub use reduction::{EchelonRows, Reduced, echelon, reduce};
 pub use systems::{Solution, solve};
-
-#[cfg(test)]
-mod plain;
-#[cfg(test)]
-mod tests;

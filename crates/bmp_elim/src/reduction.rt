@@ -6,13 +6,14 @@ ghost use Rattle.bmp_elim.specs.Echelons.{IsEchelon};
 ghost use Rattle.bmp_elim.specs.Traces.{IsTrace, HasTrace};
 
 use crate::eliminate::eliminate;
-use crate::row_vectors::sparse_rows;
-use crate::unit_rows::{no_columns, unit_rows};
+use crate::eliminated::eliminate_rows;
+use crate::unit_rows::no_columns;
 use bmp_field::Field;
-use bmp_linear::{Places, RowSpace, Rows, SparseRows};
+use bmp_linear::{Places, RowSpace, Rows, SparseRows, stored};
 use std::alloc::{AllocError, Global};
 
-/// Rows in reduced echelon form, the places of their leading ones, and the trace that leads to them.
+/// Rows in reduced echelon form, the places of their leading ones, and the trace that leads to them: it has
+/// as many rows and columns as there are rows.
 #[derive(Drop)]
 pub struct Reduced<F: Field, A: RowSpace<F>> {
     pub rows: A,
@@ -41,14 +42,12 @@ pub fn reduce<F: Field, A: RowSpace<F>>(
     ensures numbers { IfOk result (λ r. NumbersBelow (F.size f.now) (A.matrix r.rows)) }
     ensures trace_numbers { IfOk result (λ r. NumbersBelow (F.size f.now) (matrix_of_entries r.trace)) }
 {
-    let mut rows = a;
-    let mut trace = unit_rows(alloc, f, &rows, rows.rows())?;
-    let pivots = eliminate(alloc, f, &mut rows, &mut trace)?;
-    let trace = sparse_rows(alloc, f, &trace)?;
+    let eliminated = eliminate_rows(alloc, f, a)?;
+    let trace = stored(alloc, f, &eliminated.trace, &SparseRows::new(alloc, 0))?;
     Ok(Reduced {
-        rows,
+        rows: eliminated.rows,
         trace,
-        pivots,
+        pivots: eliminated.pivots,
     })
 }
 

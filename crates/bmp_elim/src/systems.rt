@@ -6,9 +6,7 @@ ghost use Rattle.bmp_linear.specs.SparseVectors.{FitsBelow, ValuesBelow, number_
 ghost use Rattle.bmp_elim.specs.Systems.{HasSolution, IsSolution, IsObstruction, IsFound, IfFound, IfWithout};
 ghost use Rattle.bmp_elim.specs.Images.{SaysZeroFrom, SaysOther, HasImages};
 
-use crate::eliminate::eliminate;
-use crate::row_vectors::row_vector;
-use crate::unit_rows::unit_rows;
+use crate::eliminated::{eliminate_rows, solve_by};
 use bmp_field::Field;
 use bmp_linear::{Entry, Places, RowSpace, Rows, Vector};
 use std::alloc::{AllocError, Global};
@@ -23,7 +21,7 @@ pub enum Solution {
 }
 
 /// The first row from `from` on that doesn't say 0 of the vector.
-fn find_other<F: Field, A: Rows<F>>(f: &F, t: &A, from: u32, b: &Vector) -> Option<u32>
+pub(crate) fn find_other<F: Field, A: Rows<F>>(f: &F, t: &A, from: u32, b: &Vector) -> Option<u32>
     requires numbers { NumbersBelow (F.size f.now) (A.matrix t.now) }
     requires fits { FitsBelow b.now (A.matrix t.now).cols }
     requires values { ValuesBelow b.now (F.size f.now) }
@@ -40,7 +38,7 @@ fn find_other<F: Field, A: Rows<F>>(f: &F, t: &A, from: u32, b: &Vector) -> Opti
 }
 
 /// The vector that has at each pivot what the row of its number says of `b`, and 0 elsewhere.
-fn pivot_vector<F: Field, A: Rows<F>>(
+pub(crate) fn pivot_vector<F: Field, A: Rows<F>>(
     alloc: Global,
     f: &F,
     t: &A,
@@ -67,8 +65,8 @@ fn pivot_vector<F: Field, A: Rows<F>>(
     Ok(x)
 }
 
-/// Solves `a x = b`: a solution where there is one, and otherwise a combination of the equations that
-/// no `x` meets.
+/// Solves `a x = b`, where `b` has a number a row: a solution where there is one, and otherwise a
+/// combination of the equations that no `x` meets.
 pub fn solve<F: Field, A: RowSpace<F>>(
     alloc: Global,
     f: &F,
@@ -83,11 +81,8 @@ pub fn solve<F: Field, A: RowSpace<F>>(
     ensures exactly { IfOk result
         (λ s. IsFound s ↔ HasSolution (F.size f.now) (A.matrix a.now) (number_at b.now)) }
 {
-    let mut rows = a.copy()?;
-    let mut trace = unit_rows(alloc, f, a, a.rows())?;
-    let pivots = eliminate(alloc, f, &mut rows, &mut trace)?;
-    match find_other(f, &trace, pivots.len(), b) {
-        Some(row) => Ok(Solution::Without(row_vector(alloc, f, &trace, row)?)),
-        None => Ok(Solution::Found(pivot_vector(alloc, f, &trace, &pivots, b)?)),
-    }
+    let rows = a.copy()?;
+    let eliminated = eliminate_rows(alloc, f, rows)?;
+    let solution = solve_by(alloc, f, &eliminated, b)?;
+    Ok(solution)
 }

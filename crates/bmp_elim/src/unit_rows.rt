@@ -1,20 +1,11 @@
 //! Rows for a trace to begin with.
-ghost use Rattle.std.specs.Prelude.{◌≡◌, [], ◌∷◌, IfOk};
+ghost use Rattle.std.specs.Prelude.{◌≡◌, IfOk};
 ghost use Rattle.bmp_math.specs.Matrices.{Matrix, NumbersBelow};
 ghost use Rattle.bmp_elim.specs.Traces.{AreUnits};
 
 use bmp_field::Field;
-use bmp_linear::{Entry, RowSpace, Vector};
+use bmp_linear::{RowSpace, Vector};
 use std::alloc::{AllocError, Global};
-
-/// The vector that is 1 at the place.
-fn unit(alloc: Global, place: u32) -> Result<Vector, AllocError>
-    ensures { IfOk result (λ unit. unit ≡ record { place = place; value = 1 } ∷ []) }
-{
-    let mut unit = Vector::with_capacity(alloc, 1)?;
-    unit.push(Entry { place, value: 1 })?;
-    Ok(unit)
-}
 
 /// The unit vectors of `count` numbers, kept as the rows of `like` are.
 pub(crate) fn unit_rows<F: Field, A: RowSpace<F>>(
@@ -28,7 +19,7 @@ pub(crate) fn unit_rows<F: Field, A: RowSpace<F>>(
 {
     let mut rows = like.empty(count);
     for place in 0..count {
-        rows.push_row(f, &unit(alloc, place)?)?;
+        rows.push_row(f, &Vector::unit(alloc, place)?)?;
     }
     Ok(rows)
 }

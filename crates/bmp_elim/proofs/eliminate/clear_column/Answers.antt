@@ -1,4 +1,4 @@
-use Rattle.std.proofs.Common.{◌≡◌, ◌<◌, ◌≤◌, ◌∙◌, sym, arith}
+use Rattle.std.proofs.Common.{◌<◌, ◌≤◌, ◌∙◌, sym, arith}
 use Rattle.bmp_elim.proofs.StepLemmas.{cleared_more, cleared_skip}
 use Rattle.bmp_elim.proofs.eliminate.clear_column.Goals as goal
 use Rattle.bmp_elim.proofs.eliminate.clear_column.Goals.{then-i-pivot+then-num-ne0+in_ok-add_row+in_ok-add_row-2, then-i-pivot+else-num-ne0, else-i-pivot}

@@ -1,4 +1,4 @@
-use Rattle.std.proofs.Common.{◌<◌, ◌≤◌, arith}
+use Rattle.std.proofs.Common.{◌≤◌, arith}
 use Rattle.bmp_linear.proofs.RowChangeLemmas.{numbers_below-pushed}
 use Rattle.bmp_elim.proofs.JoinedLemmas.{joined_more}
 use Rattle.bmp_elim.proofs.extensions.joined_columns.Goals as goal

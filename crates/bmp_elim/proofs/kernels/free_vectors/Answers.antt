@@ -1,4 +1,4 @@
-use Rattle.std.proofs.Common.{◌≡◌, ◌+◌, ◌<◌, ◌≤◌, ◌^◌, length, get_or, refl, sym, true≢false, arith}
+use Rattle.std.proofs.Common.{◌≡◌, ◌<◌, ◌≤◌, length, get_or, refl, sym, true≢false, arith}
 use Rattle.bmp_elim.proofs.PlacedLemmas.{count_more, count_same, not_counted}
 use Rattle.bmp_elim.proofs.FreeVectorLemmas.{has_place_at, has_no_place, basis_pivot, basis_push}
 use Rattle.bmp_elim.proofs.kernels.free_vectors.Goals as goal

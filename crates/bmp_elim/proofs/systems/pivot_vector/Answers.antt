@@ -1,4 +1,4 @@
-use Rattle.std.proofs.Common.{◌≡◌, ℕ, ◌+◌, ◌%◌, ◌<◌, ◌≤◌, length, refl, sym, ap, ◌∙◌, subst, arith}
+use Rattle.std.proofs.Common.{ℕ, ◌<◌, length, sym, ◌∙◌, subst, arith}
 use Rattle.bmp_linear.specs.SparseVectors.{FitsBelow, number_at}
 use Rattle.bmp_elim.specs.Images.{IsImage}
 use Rattle.bmp_elim.proofs.PlacedLemmas.{rising_from, placed_fits, placed_zero, placed_push}

@@ -1,6 +1,6 @@
-use Rattle.std.proofs.Common.{◌≡◌, ℕ, ◌-◌, ◌<◌, ◌≤◌, length}
+use Rattle.std.proofs.Common.{ℕ, ◌-◌, ◌<◌, ◌≤◌, length}
 use Rattle.std.specs.Prelude.{slice_index}
-use Rattle.bmp_elim.proofs.extensions.count_below.Given as goal
+use Rattle.bmp_elim.proofs.columns.count_below.Given as goal
 
 -- the places that were counted are below n
 abbrev pub invariant-loop-count : goal.invariant-loop-count

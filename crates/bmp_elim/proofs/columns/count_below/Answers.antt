@@ -1,6 +1,6 @@
-use Rattle.std.proofs.Common.{◌≡◌, ◌<◌, ◌≤◌, sym, subst}
+use Rattle.std.proofs.Common.{◌≤◌, subst}
 use Rattle.bmp_elim.proofs.PlacedLemmas.{count_ended}
-use Rattle.bmp_elim.proofs.extensions.count_below.Goals as goal
+use Rattle.bmp_elim.proofs.columns.count_below.Goals as goal
 
 -- the place that ended the loop isn't below n
 pub returns-else-at-n : goal.returns-else-at-n

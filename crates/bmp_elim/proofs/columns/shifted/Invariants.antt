@@ -1,6 +1,6 @@
-use Rattle.std.proofs.Common.{◌≡◌, ℕ, ◌+◌, ◌<◌, ◌≤◌, length}
+use Rattle.std.proofs.Common.{◌≡◌, ℕ, ◌+◌, ◌<◌, length}
 use Rattle.std.specs.Prelude.{slice_index}
-use Rattle.bmp_elim.proofs.extensions.shifted.Given as goal
+use Rattle.bmp_elim.proofs.columns.shifted.Given as goal
 
 -- the places that were passed
 abbrev pub invariant-loop-k : goal.invariant-loop-k

@@ -1,0 +1,22 @@
+use Rattle.std.proofs.Common.{◌≤◌, length}
+use Rattle.bmp_elim.specs.RowVectors.{AreRowVectors}
+use Rattle.bmp_elim.proofs.EvidenceLemmas.{evidence_fits, evidence_below, evidence_passes}
+use Rattle.bmp_elim.proofs.eliminated.evidence_by.Goals as goal
+
+pub returns : goal.returns
+returns g c = λ old reduced.
+    let p = g.F.Field.size c.args.f.now in
+    let e = c.args.e.now in
+    let two : 2 ≤ p = g.met.F.Field.laws.at_least_two c.args.f.now in
+    let rows : AreRowVectors p (g.A.Rows.matrix e.trace) 0 (length e.pivots) c.in_ok-combinations.combinations = rw
+    (← c.len.ensures) c.in_ok-combinations.ensures in
+    rw c.in_ok-pivots.ensures
+    (record {
+      fits = evidence_fits p old (g.A.Rows.matrix e.rows) (g.A.Rows.matrix e.trace) e.pivots c.in_ok-basis.basis
+          c.in_ok-combinations.combinations two reduced.trace reduced.echelon c.in_ok-basis.ensures rows;
+      below = evidence_below p old (g.A.Rows.matrix e.rows) (g.A.Rows.matrix e.trace) e.pivots c.in_ok-basis.basis
+          c.in_ok-combinations.combinations two reduced.trace reduced.echelon c.in_ok-basis.ensures rows;
+      passes = evidence_passes p old (g.A.Rows.matrix e.rows) (g.A.Rows.matrix e.trace) e.pivots
+          c.in_ok-basis.basis c.in_ok-combinations.combinations two reduced.trace reduced.echelon
+          c.in_ok-basis.ensures rows;
+    })

@@ -1,7 +1,0 @@
-use Rattle.bmp_math.specs.Matrices.{NumbersBelow}
-use Rattle.bmp_field.specs.PrimeFields.{size_of}
-use Rattle.bmp_elim.proofs.tests.rows_of.Given as goal
-
--- the rows so far have field numbers
-abbrev pub invariant-loop-i : goal.invariant-loop-i
-invariant-loop-i g l = NumbersBelow (size_of l.f) (g.A.Rows.matrix l.a)
