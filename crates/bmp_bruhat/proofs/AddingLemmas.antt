@@ -16,7 +16,7 @@ use Rattle.bmp_weyl.proofs.ActionLemmas.{acts-append}
 use Rattle.bmp_weyl.proofs.ElementLemmas.{reflection_product}
 use Rattle.bmp_weyl.proofs.CallLemmas.{root_system}
 use Rattle.bmp_interval.specs.Vertices.{IsVertex, HasVertices}
-use Rattle.bmp_bruhat.specs.Edges.{IsReflectedTo, IsEdge}
+use Rattle.bmp_bruhat.specs.Edges.{IsReflectedTo, IsEdgeOfRoot}
 use Rattle.bmp_bruhat.proofs.EdgeLemmas.{one_at, pair_is_positive, one_target}
 
 -- a member of a list of vertices is a vertex
@@ -48,38 +48,42 @@ module _ (roots : Roots) (i : ℕ) (pair : Pair) (pair_is : slice_get (positives
 
   module _ (list : List Elem) (x : ℕ) (at : slice_get list x ≡ Some low) (above : Elem) (product : IsTimes r low above) where
     -- an edge of this root leads up to the product alone
-    pub edge_high : (y : ℕ) → (edge : IsEdge roots list x y i) → edge.high ≡ above
+    pub edge_high : (y : ℕ) → (edge : IsEdgeOfRoot roots list x y i) → edge.edge.high ≡ above
     edge_high y edge =
-        let same_low = one_at list x edge.low low edge.low_is at in
+        let same_low = one_at list x edge.edge.low low edge.edge.low_is at in
         let same_pair = one_at (positives roots) i edge.pair pair edge.pair_is pair_is in
-        let reflected : IsReflectedTo (matrix_of roots) (pair_of pair) low edge.high =
-        subst (λ q. IsReflectedTo (matrix_of roots) (pair_of q) low edge.high) same_pair
-        (subst (λ v. IsReflectedTo (matrix_of roots) (pair_of edge.pair) v edge.high) same_low edge.reflected) in
-        one_target roots (pair_of pair) low edge.high above reflected (is_reflected above product)
+        let reflected : IsReflectedTo (matrix_of roots) (pair_of pair) low edge.edge.high =
+        subst (λ q. IsReflectedTo (matrix_of roots) (pair_of q) low edge.edge.high) same_pair
+        (subst (λ v. IsReflectedTo (matrix_of roots) (pair_of edge.pair) v edge.edge.high) same_low edge.edge.reflected) in
+        one_target (matrix_of roots) (positive_roots_of roots) (root_system roots) (pair_of pair) low edge.edge.high above reflected (is_reflected above product)
 
     -- so there is none where the product is no vertex
-    pub no_vertex : (word : List ℕ) → HasVertices (matrix_of roots) word list → (IsVertex (matrix_of roots) word above → ⊥) → (y : ℕ) → IsEdge roots list x y i → ⊥
+    pub no_vertex : (word : List ℕ) → HasVertices (matrix_of roots) word list → (IsVertex (matrix_of roots) word above → ⊥) → (y : ℕ) → IsEdgeOfRoot roots list x y i → ⊥
     no_vertex word vertices none y edge =
-        none (subst (λ z. IsVertex (matrix_of roots) word z) (edge_high y edge) (vertex_at (matrix_of roots) word list vertices y edge.high edge.high_is))
+        none (subst (λ z. IsVertex (matrix_of roots) word z) (edge_high y edge) (vertex_at (matrix_of roots) word list vertices y edge.edge.high edge.edge.high_is))
 
     -- and none where it is not longer
-    pub not_longer : element_length (positive_roots_of roots) above ≤ element_length (positive_roots_of roots) low → (y : ℕ) → IsEdge roots list x y i → ⊥
+    pub not_longer : element_length (positive_roots_of roots) above ≤ element_length (positive_roots_of roots) low → (y : ℕ) → IsEdgeOfRoot roots list x y i → ⊥
     not_longer short y edge =
-        let same_low = ap (element_length (positive_roots_of roots)) (one_at list x edge.low low edge.low_is at) in
+        let same_low = ap (element_length (positive_roots_of roots)) (one_at list x edge.edge.low low edge.edge.low_is at) in
         let same_high = ap (element_length (positive_roots_of roots)) (edge_high y edge) in
-        let longer = edge.longer in
+        let longer = edge.edge.longer in
         omega arith
 
     -- a longer vertex that is the product has the edge
     abbrev pub edge_found : (y : ℕ) → slice_get list y ≡ Some above → element_length (positive_roots_of roots) low < element_length (positive_roots_of roots) above
-        → IsEdge roots list x y i
+        → IsEdgeOfRoot roots list x y i
     edge_found y above_at longer = record {
-      low = low;
-      high = above;
       pair = pair;
-      low_is = at;
-      high_is = above_at;
       pair_is = pair_is;
-      reflected = is_reflected above product;
-      longer = longer;
+      edge = record {
+        low = low;
+        high = above;
+        low_is = at;
+        high_is = above_at;
+        pair = (pair_is_positive roots i pair pair_is).0;
+        positive = (pair_is_positive roots i pair pair_is).1;
+        reflected = is_reflected above product;
+        longer = longer;
+      };
     }

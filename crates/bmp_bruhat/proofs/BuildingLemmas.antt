@@ -1,19 +1,17 @@
 -- How the edges grow by one reflection at one vertex.
-use Rattle.std.proofs.Common.{◌≡◌, ℕ, ◌+◌, ◌-◌, ◌<◌, ◌≤◌, ◌⊎◌, inl, inr, List, length, get_or, insert, arith, sym, ap, subst, ◌∙◌}
+use Rattle.std.proofs.Common.{◌≡◌, ℕ, ◌+◌, ◌-◌, ◌<◌, ◌≤◌, ◌⊎◌, inl, inr, List, length, get_or, insert, arith, refl, sym, ap, subst, ◌∙◌}
 use Rattle.std.proofs.lemmas.Bool.{cases_eq, cases_lt}
 use Rattle.std.proofs.lemmas.Option.{slice_get_within}
 use Rattle.std.proofs.lemmas.List.Edits.{get_or-insert_at, get_or-insert_below, get_or-insert_above, length-insert}
 use Rattle.bmp_math.specs.Lists.{HasEachOnce}
-use Rattle.bmp_roots.specs.Pairs.{coordinates}
-use Rattle.bmp_roots.specs.RootSystems.{matrix_of, positives}
+use Rattle.bmp_roots.specs.RootSystems.{positives}
 use Rattle.bmp_roots.specs.declared.root_system.Roots.{Roots}
 use Rattle.bmp_roots.proofs.RootsLemmas.{has_few_positives}
 use Rattle.bmp_weyl.specs.declared.elem.Elem.{Elem}
-use Rattle.bmp_graph.specs.declared.edge.Edge.{Edge}
-use Rattle.bmp_bruhat.specs.Labels.{IsRootLabel}
-use Rattle.bmp_bruhat.specs.Edges.{IsEdge}
+use Rattle.bmp_bruhat.specs.Edges.{IsEdgeOfRoot}
 use Rattle.bmp_bruhat.specs.Building.{ComesBefore, IsDone, HasEdge, IsFound, HasEdgesUpTo}
-use Rattle.bmp_bruhat.proofs.EdgeLemmas.{edge_is_unique, edge_target}
+use Rattle.bmp_bruhat.specs.declared.root_edge.RootEdge.{RootEdge}
+use Rattle.bmp_bruhat.proofs.EdgeLemmas.{root_is_unique, root_target}
 
 -- pairs of numbers are in order, one way or the other, or equal
 pub three_ways : (a b c d : ℕ) → ComesBefore a b c d ⊎ (((a ≡ c) × (b ≡ d)) ⊎ ComesBefore c d a b)
@@ -51,19 +49,22 @@ IsDone-last x i w j h =
       | inr p ↦ elim (cases_eq j i) [ inl same ↦ inr (p.0, same) | inr apart ↦ inl (inr (p.0, omega (arith, p.1))) ]
     ]
 
-pub IsFound-more : (roots : Roots) (list : List Elem) (p x i : ℕ) (d : Edge) → IsFound roots list p x i d → IsFound roots list p x (i + 1) d
-IsFound-more roots list p x i d h = record { root = h.root; done = IsDone-more x i d.lower h.root h.done; edge = h.edge; label = h.label }
+pub IsFound-more : (roots : Roots) (list : List Elem) (x i : ℕ) (d : RootEdge) → IsFound roots list x i d → IsFound roots list x (i + 1) d
+IsFound-more roots list x i d h = record { done = IsDone-more x i d.lower d.root h.done; edge = h.edge }
+
+abbrev pub root_edge : ℕ → ℕ → ℕ → RootEdge
+root_edge x y i = record { lower = x; upper = y; root = i }
 
 -- where the edge goes
-pub record IsPlace (edges : List Edge) (x y place : ℕ) : Type 0 where
+pub record IsPlace (edges : List RootEdge) (x y place : ℕ) : Type 0 where
   pub within : place ≤ length edges
-  pub before : (e : ℕ) (o : Edge) → e < place → ComesBefore (get_or edges e o).lower (get_or edges e o).upper x y
-  pub after : (e : ℕ) (o : Edge) → place ≤ e → e < length edges → ComesBefore x y (get_or edges e o).lower (get_or edges e o).upper
+  pub before : (e : ℕ) (o : RootEdge) → e < place → ComesBefore (get_or edges e o).lower (get_or edges e o).upper x y
+  pub after : (e : ℕ) (o : RootEdge) → place ≤ e → e < length edges → ComesBefore x y (get_or edges e o).lower (get_or edges e o).upper
 
 -- what stands at each place after an insertion
-pub inserted_at : (P : Edge → Type 0) (edges : List Edge) (place : ℕ) (new : Edge) → place ≤ length edges
-    → P new → ((e : ℕ) (o : Edge) → e < length edges → P (get_or edges e o))
-    → (e : ℕ) (o : Edge) → e < length (insert edges place new) → P (get_or (insert edges place new) e o)
+pub inserted_at : (P : RootEdge → Type 0) (edges : List RootEdge) (place : ℕ) (new : RootEdge) → place ≤ length edges
+    → P new → ((e : ℕ) (o : RootEdge) → e < length edges → P (get_or edges e o))
+    → (e : ℕ) (o : RootEdge) → e < length (insert edges place new) → P (get_or (insert edges place new) e o)
 inserted_at P edges place new within here others e o h =
     let longer = length-insert edges place new within in
     elim (cases_lt e place) [
@@ -78,7 +79,7 @@ inserted_at P edges place new within here others e o h =
     ]
 
 -- an edge that was there is still there
-pub HasEdge-insert : (edges : List Edge) (place w y : ℕ) (new : Edge) → place ≤ length edges → HasEdge edges w y → HasEdge (insert edges place new) w y
+pub HasEdge-insert : (edges : List RootEdge) (place w y : ℕ) (new : RootEdge) → place ≤ length edges → HasEdge edges w y → HasEdge (insert edges place new) w y
 HasEdge-insert edges place w y new within has =
     let longer = length-insert edges place new within in
     let inside = has.within in
@@ -86,33 +87,33 @@ HasEdge-insert edges place w y new within has =
       | inl lt ↦ record {
         place = has.place;
         within = omega arith;
-        lower = λ o. ap (λ (d : Edge). d.lower) (get_or-insert_below edges place new o has.place lt within) ∙ has.lower o;
-        upper = λ o. ap (λ (d : Edge). d.upper) (get_or-insert_below edges place new o has.place lt within) ∙ has.upper o;
+        lower = λ o. ap (λ (d : RootEdge). d.lower) (get_or-insert_below edges place new o has.place lt within) ∙ has.lower o;
+        upper = λ o. ap (λ (d : RootEdge). d.upper) (get_or-insert_below edges place new o has.place lt within) ∙ has.upper o;
       }
       | inr le ↦ record {
         place = has.place + 1;
         within = omega arith;
-        lower = λ o. ap (λ (d : Edge). d.lower) (get_or-insert_above edges place new o has.place le within) ∙ has.lower o;
-        upper = λ o. ap (λ (d : Edge). d.upper) (get_or-insert_above edges place new o has.place le within) ∙ has.upper o;
+        lower = λ o. ap (λ (d : RootEdge). d.lower) (get_or-insert_above edges place new o has.place le within) ∙ has.lower o;
+        upper = λ o. ap (λ (d : RootEdge). d.upper) (get_or-insert_above edges place new o has.place le within) ∙ has.upper o;
       }
     ]
 
 -- the new edge is there
-pub HasEdge-here : (edges : List Edge) (place : ℕ) (new : Edge) → place ≤ length edges → HasEdge (insert edges place new) new.lower new.upper
+pub HasEdge-here : (edges : List RootEdge) (place : ℕ) (new : RootEdge) → place ≤ length edges → HasEdge (insert edges place new) new.lower new.upper
 HasEdge-here edges place new within = record {
   place = place;
   within = omega (arith, length-insert edges place new within);
-  lower = λ o. ap (λ (d : Edge). d.lower) (get_or-insert_at edges place new o within);
-  upper = λ o. ap (λ (d : Edge). d.upper) (get_or-insert_at edges place new o within);
+  lower = λ o. ap (λ (d : RootEdge). d.lower) (get_or-insert_at edges place new o within);
+  upper = λ o. ap (λ (d : RootEdge). d.upper) (get_or-insert_at edges place new o within);
 }
 
-abbrev EdgeBefore : Edge → Edge → Type 0
+abbrev EdgeBefore : RootEdge → RootEdge → Type 0
 EdgeBefore a b = ComesBefore a.lower a.upper b.lower b.upper
 
 -- the order stays where the new edge goes between the lesser and the greater ones
-pub order_inserted : (edges : List Edge) (place : ℕ) (new : Edge) → IsPlace edges new.lower new.upper place
-    → ((d e : ℕ) (o : Edge) → d < e → e < length edges → EdgeBefore (get_or edges d o) (get_or edges e o))
-    → (d e : ℕ) (o : Edge) → d < e → e < length (insert edges place new) → EdgeBefore (get_or (insert edges place new) d o) (get_or (insert edges place new) e o)
+pub order_inserted : (edges : List RootEdge) (place : ℕ) (new : RootEdge) → IsPlace edges new.lower new.upper place
+    → ((d e : ℕ) (o : RootEdge) → d < e → e < length edges → EdgeBefore (get_or edges d o) (get_or edges e o))
+    → (d e : ℕ) (o : RootEdge) → d < e → e < length (insert edges place new) → EdgeBefore (get_or (insert edges place new) d o) (get_or (insert edges place new) e o)
 order_inserted edges place new is order d e o lt h =
     let within = is.within in
     let longer = length-insert edges place new within in
@@ -144,58 +145,58 @@ order_inserted edges place new is order d e o lt h =
       ]
     ]
 
-module _ (roots : Roots) (list : List Elem) (once : HasEachOnce list) (p x i : ℕ) (edges : List Edge) (so_far : HasEdgesUpTo roots list p x i edges) where
+module _ (roots : Roots) (list : List Elem) (once : HasEachOnce list) (x i : ℕ) (edges : List RootEdge) (so_far : HasEdgesUpTo roots list x i edges) where
   -- the reflection leads up to no vertex
-  pub HasEdgesUpTo-none : ((y : ℕ) → IsEdge roots list x y i → ⊥) → HasEdgesUpTo roots list p x (i + 1) edges
+  pub HasEdgesUpTo-none : ((y : ℕ) → IsEdgeOfRoot roots list x y i → ⊥) → HasEdgesUpTo roots list x (i + 1) edges
   HasEdgesUpTo-none none = record {
     few = omega (arith, so_far.few);
     order = so_far.order;
-    each = λ e o h. IsFound-more roots list p x i (get_or edges e o) (so_far.each e o h);
+    each = λ e o h. IsFound-more roots list x i (get_or edges e o) (so_far.each e o h);
     all = λ w y j edge done. elim (IsDone-last x i w j done) [
       | inl earlier ↦ so_far.all w y j edge earlier
-      | inr last ↦ absurd (none y (subst (λ k. IsEdge roots list x y k) last.1 (subst (λ v. IsEdge roots list v y j) last.0 edge)))
+      | inr last ↦ absurd (none y (subst (λ k. IsEdgeOfRoot roots list x y k) last.1 (subst (λ v. IsEdgeOfRoot roots list v y j) last.0 edge)))
     ];
   }
 
   -- it leads up to y, and the edge goes to its place
-  pub HasEdgesUpTo-more : (place : ℕ) (new : Edge) → new.lower ≡ x → (edge : IsEdge roots list new.lower new.upper i) → IsRootLabel p (matrix_of roots).rank (coordinates edge.pair.root) new.label
-      → IsPlace edges new.lower new.upper place → HasEdgesUpTo roots list p x (i + 1) (insert edges place new)
-  HasEdgesUpTo-more place new starts edge label is =
+  pub HasEdgesUpTo-more : (place y : ℕ) → IsEdgeOfRoot roots list x y i → IsPlace edges x y place → HasEdgesUpTo roots list x (i + 1) (insert edges place (root_edge x y i))
+  HasEdgesUpTo-more place y edge is =
       let within = is.within in
+      let new : RootEdge = root_edge x y i in
       record {
         few = omega (arith, so_far.few, length-insert edges place new within);
         order = order_inserted edges place new is so_far.order;
-        each = inserted_at (IsFound roots list p x (i + 1)) edges place new within
-            (record { root = i; done = inr (starts, omega arith); edge = edge; label = label })
-            (λ e o h. IsFound-more roots list p x i (get_or edges e o) (so_far.each e o h));
-        all = λ w y j other done. elim (IsDone-last x i w j done) [
-          | inl earlier ↦ HasEdge-insert edges place w y new within (so_far.all w y j other earlier)
+        each = inserted_at (IsFound roots list x (i + 1)) edges place new within
+            (record { done = inr (refl, omega arith); edge = edge })
+            (λ e o h. IsFound-more roots list x i (get_or edges e o) (so_far.each e o h));
+        all = λ w z j other done. elim (IsDone-last x i w j done) [
+          | inl earlier ↦ HasEdge-insert edges place w z new within (so_far.all w z j other earlier)
           | inr last ↦
-              let from = last.0 ∙ sym starts in
-              let moved : IsEdge roots list new.lower y i = subst (λ k. IsEdge roots list new.lower y k) last.1 (subst (λ v. IsEdge roots list v y j) from other) in
-              let ends = edge_target roots list once new.lower new.upper y i edge moved in
-              subst (λ v. HasEdge (insert edges place new) v y) (sym from)
-              (subst (λ v. HasEdge (insert edges place new) new.lower v) ends (HasEdge-here edges place new within))
+              let moved : IsEdgeOfRoot roots list x z i = subst (λ k. IsEdgeOfRoot roots list x z k) last.1 (subst (λ v. IsEdgeOfRoot roots list v z j) last.0 other) in
+              let ends = root_target roots list once x y z i edge moved in
+              subst (λ v. HasEdge (insert edges place new) v z) (sym last.0)
+              (subst (λ v. HasEdge (insert edges place new) x v) ends (HasEdge-here edges place new within))
         ];
       }
 
   -- the place behind the last edge that is not greater: none has the same ends
-  pub IsPlace-found : (y place : ℕ) → IsEdge roots list x y i → place ≤ length edges
-      → ((e : ℕ) (o : Edge) → place ≤ e → e < length edges → ComesBefore x y (get_or edges e o).lower (get_or edges e o).upper)
-      → ((e : ℕ) (o : Edge) → e + 1 ≡ place → ComesBefore x y (get_or edges e o).lower (get_or edges e o).upper → ⊥)
+  pub IsPlace-found : (y place : ℕ) → IsEdgeOfRoot roots list x y i → place ≤ length edges
+      → ((e : ℕ) (o : RootEdge) → place ≤ e → e < length edges → ComesBefore x y (get_or edges e o).lower (get_or edges e o).upper)
+      → ((e : ℕ) (o : RootEdge) → e + 1 ≡ place → ComesBefore x y (get_or edges e o).lower (get_or edges e o).upper → ⊥)
       → IsPlace edges x y place
   IsPlace-found y place edge within after last = record { within = within; before = before; after = after }
     where
-      apart : (e : ℕ) (o : Edge) → e < length edges → (get_or edges e o).lower ≡ x → (get_or edges e o).upper ≡ y → ⊥
+      apart : (e : ℕ) (o : RootEdge) → e < length edges → (get_or edges e o).lower ≡ x → (get_or edges e o).upper ≡ y → ⊥
       apart e o h starts ends =
           let found = so_far.each e o h in
-          let moved : IsEdge roots list x y found.root =
-          subst (λ v. IsEdge roots list x v found.root) ends (subst (λ v. IsEdge roots list v (get_or edges e o).upper found.root) starts found.edge) in
-          let same = edge_is_unique roots list x y found.root i moved edge in
+          let number : ℕ = (get_or edges e o).root in
+          let moved : IsEdgeOfRoot roots list x y number =
+          subst (λ v. IsEdgeOfRoot roots list x v number) ends (subst (λ v. IsEdgeOfRoot roots list v (get_or edges e o).upper number) starts found.edge) in
+          let same = root_is_unique roots list x y number i moved edge in
           elim found.done [ inl lt ↦ omega arith | inr q ↦ omega (arith, q.1) ]
 
       -- the last one before the place is less, and so are those before it
-      at_last : (e : ℕ) (o : Edge) → e + 1 ≡ place → ComesBefore (get_or edges e o).lower (get_or edges e o).upper x y
+      at_last : (e : ℕ) (o : RootEdge) → e + 1 ≡ place → ComesBefore (get_or edges e o).lower (get_or edges e o).upper x y
       at_last e o is =
           elim (three_ways (get_or edges e o).lower (get_or edges e o).upper x y) [
             | inl less ↦ less
@@ -205,7 +206,7 @@ module _ (roots : Roots) (list : List Elem) (once : HasEachOnce list) (p x i : �
             ]
           ]
 
-      before : (e : ℕ) (o : Edge) → e < place → ComesBefore (get_or edges e o).lower (get_or edges e o).upper x y
+      before : (e : ℕ) (o : RootEdge) → e < place → ComesBefore (get_or edges e o).lower (get_or edges e o).upper x y
       before e o h =
           elim (cases_eq (e + 1) place) [
             | inl here ↦ at_last e o here
@@ -215,18 +216,16 @@ module _ (roots : Roots) (list : List Elem) (once : HasEachOnce list) (p x i : �
           ]
 
 -- all roots at a vertex are done
-pub HasEdgesUpTo-row : (roots : Roots) (list : List Elem) (p x i : ℕ) (edges : List Edge) → HasEdgesUpTo roots list p x i edges → i ≡ length (positives roots)
-    → HasEdgesUpTo roots list p (x + 1) 0 edges
-HasEdgesUpTo-row roots list p x i edges so_far all_roots = record {
+pub HasEdgesUpTo-row : (roots : Roots) (list : List Elem) (x i : ℕ) (edges : List RootEdge) → HasEdgesUpTo roots list x i edges → i ≡ length (positives roots)
+    → HasEdgesUpTo roots list (x + 1) 0 edges
+HasEdgesUpTo-row roots list x i edges so_far all_roots = record {
   few = let few = has_few_positives roots in omega (arith, so_far.few);
   order = so_far.order;
   each = λ e o h.
       let found = so_far.each e o h in
       record {
-        root = found.root;
         done = inl (elim found.done [ inl lt ↦ omega arith | inr q ↦ omega (arith, q.0) ]);
         edge = found.edge;
-        label = found.label;
       };
   all = λ w y j edge done.
       let below = slice_get_within (positives roots) j edge.pair edge.pair_is in

@@ -1,8 +1,9 @@
 -- The edges that were found make a graph, which is the Bruhat graph of the interval.
-use Rattle.std.proofs.Common.{◌≡◌, ℕ, ◌<◌, inl, inr, List, [], length, get_or, map, Some, slice_get, refl, arith, sym, ap, subst, ◌∙◌}
+use Rattle.std.proofs.Common.{◌≡◌, ℕ, ◌<◌, inl, List, [], length, get_or, map, Some, slice_get, refl, arith, sym, ap, subst, ◌∙◌}
 use Rattle.std.proofs.lemmas.List.{length-map, get_or-map}
-use Rattle.std.proofs.lemmas.Option.{slice_get_within, slice_get_cases, get_or_from_slice_get}
-use Rattle.bmp_roots.specs.Pairs.{coordinates}
+use Rattle.std.proofs.lemmas.Option.{slice_get_within, get_or_from_slice_get}
+use Rattle.bmp_roots.specs.RootPairs.{CartanMatrix, Vector, RootPair}
+use Rattle.bmp_roots.specs.Pairs.{pair_of}
 use Rattle.bmp_roots.specs.RootSystems.{matrix_of, positive_roots_of}
 use Rattle.bmp_roots.specs.declared.root_system.Roots.{Roots}
 use Rattle.bmp_weyl.specs.Elements.{element_length}
@@ -16,7 +17,9 @@ use Rattle.bmp_graph.specs.declared.fault.GraphFault.{GraphFault}
 use Rattle.bmp_graph.specs.declared.fault.GraphFault.TheVariants.{Empty, LengthFalls, EdgeEnds, EdgeOrder, LabelOf, Memory}
 use Rattle.bmp_bruhat.specs.Labels.{IsLabelOf}
 use Rattle.bmp_bruhat.specs.Edges.{IsEdge, IsBruhatGraph}
-use Rattle.bmp_bruhat.specs.Building.{ComesBefore, IsFound, HasEdgesUpTo}
+use Rattle.bmp_bruhat.specs.Building.{ComesBefore, IsFound, HasEdgesUpTo, IsLabeled, AreLabeled}
+use Rattle.bmp_bruhat.specs.declared.root_edge.RootEdge.{RootEdge}
+use Rattle.bmp_bruhat.proofs.EdgeLemmas.{some_at, edge_of_root}
 
 -- all rules of graphs
 pub record KeepsRules (g : Graph) : Type 0 where
@@ -35,25 +38,33 @@ only_memory g (EdgeOrder e) rules breaks other = breaks.3.broken (rules.order e 
 only_memory g (LabelOf e) rules breaks other = breaks.4.broken (rules.labels e breaks.4.within)
 only_memory g Memory rules breaks other = other refl
 
--- some element stands at each place of a list
-pub some_at : {X : Type 0} (xs : List X) (i : ℕ) → i < length xs → (x : X) × (slice_get xs i ≡ Some x)
-some_at xs i h = elim (slice_get_cases xs i).1 [ inl r ↦ (r.0, r.2) | inr r ↦ absurd (omega (arith, r.0)) ]
-
 abbrev pub record_of : ℕ → ℕ → List ℕ → List Edge → Graph
 record_of k p ls es = record { rank = k; prime = p; lengths = ls; edges = es }
 
-module _ (roots : Roots) (list : List Elem) (word : List ℕ) (p : ℕ) (lengths : List ℕ) (edges : List Edge)
-    (interval : IsInterval (matrix_of roots) (positive_roots_of roots) word list) (some : 0 < length list)
-    (measured : lengths ≡ map (element_length (positive_roots_of roots)) list)
-    (found : HasEdgesUpTo roots list p (length list) 0 edges) where
+-- what a graph is made of
+pub record HasParts (roots : Roots) (list : List Elem) (p : ℕ) (form : RootPair → Vector) (word lengths : List ℕ) (found : List RootEdge) (edges : List Edge) : Type 0 where
+  pub interval : IsInterval (matrix_of roots) (positive_roots_of roots) word list
+  pub some : 0 < length list
+  pub measured : lengths ≡ map (element_length (positive_roots_of roots)) list
+  pub all : HasEdgesUpTo roots list (length list) 0 found
+  pub labels : AreLabeled roots p form (length found) found edges
+
+module _ {roots : Roots} {list : List Elem} {p : ℕ} {form : RootPair → Vector} {word lengths : List ℕ} {found : List RootEdge} {edges : List Edge}
+    (parts : HasParts roots list p form word lengths found edges) where
   abbrev pub made : Graph
   made = record { rank = (matrix_of roots).rank; prime = p; lengths = lengths; edges = edges }
 
-  count : length lengths ≡ length list
-  count = ap length measured ∙ length-map list (element_length (positive_roots_of roots))
+  abbrev m : CartanMatrix
+  m = matrix_of roots
 
-  length_is : (x : ℕ) (e : Elem) → x < length list → length_at made x ≡ element_length (positive_roots_of roots) (get_or list x e)
-  length_is x e h = ap (λ ls. get_or ls x 0) measured ∙ get_or-map (element_length (positive_roots_of roots)) list x e 0 h
+  abbrev positive : List Vector
+  positive = positive_roots_of roots
+
+  count : length lengths ≡ length list
+  count = ap length parts.measured ∙ length-map list (element_length positive)
+
+  length_is : (x : ℕ) (e : Elem) → x < length list → length_at made x ≡ element_length positive (get_or list x e)
+  length_is x e h = ap (λ ls. get_or ls x 0) parts.measured ∙ get_or-map (element_length positive) list x e 0 h
 
   number_is : (number : Edge → ℕ) (e : ℕ) (d : Edge) → slice_get edges e ≡ Some d → get_or (map number edges) e 0 ≡ number d
   number_is number e d at = get_or-map number edges e d 0 (slice_get_within edges e d at) ∙ ap number (get_or_from_slice_get edges e d d at)
@@ -63,92 +74,97 @@ module _ (roots : Roots) (list : List Elem) (word : List ℕ) (p : ℕ) (lengths
       ap (λ (cs : List ℕ). λ i. get_or cs i 0)
       (get_or-map (λ (d : Edge). coordinates_of d.label) edges e d [] (slice_get_within edges e d at) ∙ ap (λ (d : Edge). coordinates_of d.label) (get_or_from_slice_get edges e d d at))
 
-  at : (e : ℕ) (d : Edge) → slice_get edges e ≡ Some d → IsFound roots list p (length list) 0 d
-  at e d is = subst (λ z. IsFound roots list p (length list) 0 z) (get_or_from_slice_get edges e d d is) (found.each e d (slice_get_within edges e d is))
+  -- the edge at a place, as it was found and with its label
+  record EdgeAt (e : ℕ) : Type 0 where
+    from : RootEdge
+    edge : Edge
+    from_at : slice_get found e ≡ Some from
+    edge_at : slice_get edges e ≡ Some edge
+    labeled : IsLabeled roots p form from edge
+    is_found : IsFound roots list (length list) 0 from
 
-  ends_of : (d : Edge) (i : ℕ) → IsEdge roots list d.lower d.upper i
-      → (d.lower < length lengths) × (d.upper < length lengths) × (length_at made d.lower < length_at made d.upper)
-  ends_of d i edge =
-      let low = slice_get_within list d.lower edge.low edge.low_is in
-      let high = slice_get_within list d.upper edge.high edge.high_is in
-      let low_length = length_is d.lower edge.low low ∙ ap (element_length (positive_roots_of roots)) (get_or_from_slice_get list d.lower edge.low edge.low edge.low_is) in
-      let high_length = length_is d.upper edge.high high ∙ ap (element_length (positive_roots_of roots)) (get_or_from_slice_get list d.upper edge.high edge.high edge.high_is) in
+  edge_of : (e : ℕ) → e < length edges → EdgeAt e
+  edge_of e h =
+      let before : e < length found = omega (arith, parts.labels.as_long) in
+      let d = some_at found e before in
+      let o = some_at edges e h in
+      record {
+        from = d.0;
+        edge = o.0;
+        from_at = d.1;
+        edge_at = o.1;
+        labeled = subst (λ z. IsLabeled roots p form d.0 z) (get_or_from_slice_get edges e o.0 o.0 o.1) (parts.labels.each e d.0 o.0 before d.1);
+        is_found = subst (λ z. IsFound roots list (length list) 0 z) (get_or_from_slice_get found e d.0 d.0 d.1) (parts.all.each e d.0 before);
+      }
+
+  lower_is : (e : ℕ) (a : EdgeAt e) → lower made e ≡ a.from.lower
+  lower_is e a = number_is (λ (d : Edge). d.lower) e a.edge a.edge_at ∙ a.labeled.lower
+
+  upper_is : (e : ℕ) (a : EdgeAt e) → upper made e ≡ a.from.upper
+  upper_is e a = number_is (λ (d : Edge). d.upper) e a.edge a.edge_at ∙ a.labeled.upper
+
+  ends_of : (x y : ℕ) (q : RootPair) → IsEdge m positive list x y q → (x < length lengths) × (y < length lengths) × (length_at made x < length_at made y)
+  ends_of x y q edge =
+      let low = slice_get_within list x edge.low edge.low_is in
+      let high = slice_get_within list y edge.high edge.high_is in
+      let low_length = length_is x edge.low low ∙ ap (element_length positive) (get_or_from_slice_get list x edge.low edge.low edge.low_is) in
+      let high_length = length_is y edge.high high ∙ ap (element_length positive) (get_or_from_slice_get list y edge.high edge.high edge.high_is) in
       let longer = edge.longer in
       let vertices = count in
       (omega arith, omega arith, omega arith)
 
   pub keeps_rules : KeepsRules made
   keeps_rules = record {
-    has_vertex = let vertices = count in omega arith;
+    has_vertex = let vertices = count in let some = parts.some in omega arith;
     lengths = λ x h w next.
         let vertices = count in
         let first = some_at list w (omega arith) in
-        let rises = interval.rising w x first.0 (omega arith) (omega arith) in
+        let rises = parts.interval.rising w x first.0 (omega arith) (omega arith) in
         omega (arith, length_is w first.0 (omega arith), length_is x first.0 (omega arith));
     ends = λ e h.
-        let s = some_at edges e h in
-        let d = s.0 in
-        let low = number_is (λ (d : Edge). d.lower) e d s.1 in
-        let high = number_is (λ (d : Edge). d.upper) e d s.1 in
-        let f = at e d s.1 in
-        rw (low, high) (ends_of d f.root f.edge);
+        let a = edge_of e h in
+        rw (lower_is e a, upper_is e a) (ends_of a.from.lower a.from.upper (pair_of a.is_found.edge.pair) a.is_found.edge.edge);
     order = λ e h d next.
-        let s = some_at edges e h in
         let before : d < length edges = omega arith in
-        let o = s.0 in
-        let t = some_at edges d before in
-        rw (
-          number_is (λ (d : Edge). d.lower) e o s.1,
-          number_is (λ (d : Edge). d.upper) e o s.1,
-          number_is (λ (d : Edge). d.lower) d t.0 t.1,
-          number_is (λ (d : Edge). d.upper) d t.0 t.1,
-        )
-        (let order = found.order d e o (omega arith) h in
-        subst (λ z. ComesBefore z.lower z.upper o.lower o.upper) (get_or_from_slice_get edges d t.0 o t.1)
-        (subst (λ z. ComesBefore (get_or edges d o).lower (get_or edges d o).upper z.lower z.upper) (get_or_from_slice_get edges e o o s.1) order));
+        let a = edge_of e h in
+        let b = edge_of d before in
+        let inside : e < length found = omega (arith, parts.labels.as_long) in
+        rw (lower_is e a, upper_is e a, lower_is d b, upper_is d b)
+        (let order = parts.all.order d e a.from (omega arith) inside in
+        subst (λ (z : RootEdge). ComesBefore z.lower z.upper a.from.lower a.from.upper) (get_or_from_slice_get found d b.from a.from b.from_at)
+        (subst (λ (z : RootEdge). ComesBefore (get_or found d a.from).lower (get_or found d a.from).upper z.lower z.upper) (get_or_from_slice_get found e a.from a.from a.from_at) order));
     labels = λ e h.
-        let s = some_at edges e h in
-        let f = at e s.0 s.1 in
-        (number_is (λ (d : Edge). rank_of d.label) e s.0 s.1 ∙ f.label.rank, number_is (λ (d : Edge). prime_of d.label) e s.0 s.1 ∙ f.label.prime);
+        let a = edge_of e h in
+        let form = a.labeled.label a.is_found.edge.pair a.is_found.edge.pair_is in
+        (number_is (λ (d : Edge). rank_of d.label) e a.edge a.edge_at ∙ form.rank, number_is (λ (d : Edge). prime_of d.label) e a.edge a.edge_at ∙ form.prime);
   }
 
-  pub is_bruhat : IsBruhatGraph roots list p made
+  pub is_bruhat : IsBruhatGraph roots list p form made
   is_bruhat = record {
     rank = refl;
     prime = refl;
-    lengths = measured;
-    all = λ x y i edge.
-        let low = slice_get_within list x edge.low edge.low_is in
-        let has = found.all x y i edge (inl low) in
-        let s = some_at edges has.place has.within in (
+    lengths = parts.measured;
+    all = λ x y q edge.
+        let numbered = edge_of_root roots list x y q edge in
+        let has = parts.all.all x y numbered.0 numbered.1 (inl (slice_get_within list x edge.low edge.low_is)) in
+        let inside : has.place < length edges = omega (arith, has.within, parts.labels.as_long) in
+        let a = edge_of has.place inside in
+        let same = get_or_from_slice_get found has.place a.from a.from a.from_at in (
           has.place,
-          has.within,
-          number_is (λ (d : Edge). d.lower) has.place s.0 s.1 ∙ ap (λ (d : Edge). d.lower) (sym (get_or_from_slice_get edges has.place s.0 s.0 s.1)) ∙ has.lower s.0,
-          number_is (λ (d : Edge). d.upper) has.place s.0 s.1 ∙ ap (λ (d : Edge). d.upper) (sym (get_or_from_slice_get edges has.place s.0 s.0 s.1)) ∙ has.upper s.0,
+          inside,
+          lower_is has.place a ∙ ap (λ (d : RootEdge). d.lower) (sym same) ∙ has.lower a.from,
+          upper_is has.place a ∙ ap (λ (d : RootEdge). d.upper) (sym same) ∙ has.upper a.from,
         );
     each = λ e h.
-        let s = some_at edges e h in
-        let f = at e s.0 s.1 in
-        edge_in_graph e s.0 f (sym (number_is (λ (d : Edge). d.lower) e s.0 s.1)) (sym (number_is (λ (d : Edge). d.upper) e s.0 s.1)) (sym (form_is e s.0 s.1));
+        let a = edge_of e h in
+        let q : RootPair = pair_of a.is_found.edge.pair in
+        let labeled = a.labeled.label a.is_found.edge.pair a.is_found.edge.pair_is in (
+          q,
+          subst (λ v. IsEdge m positive list v (upper made e) q) (sym (lower_is e a))
+              (subst (λ v. IsEdge m positive list a.from.lower v q) (sym (upper_is e a)) a.is_found.edge.edge),
+          subst (λ a. IsLabelOf p (matrix_of roots).rank (form q) a) (sym (form_is e a.edge a.edge_at)) labeled.residues,
+        );
   }
-    where
-      edge_in_graph : (e : ℕ) (d : Edge) → (f : IsFound roots list p (length list) 0 d) → d.lower ≡ lower made e → d.upper ≡ upper made e → coordinate_of d.label ≡ label made e
-          → (i : ℕ) × (of : IsEdge roots list (lower made e) (upper made e) i) × IsLabelOf p (matrix_of roots).rank (coordinates of.pair.root) (label made e)
-      edge_in_graph e d f low high form =
-          let labeled = subst (λ a. IsLabelOf p (matrix_of roots).rank (coordinates f.edge.pair.root) a) form f.label.residues in (
-            f.root,
-            record {
-              low = f.edge.low;
-              high = f.edge.high;
-              pair = f.edge.pair;
-              low_is = subst (λ z. slice_get list z ≡ Some f.edge.low) low f.edge.low_is;
-              high_is = subst (λ z. slice_get list z ≡ Some f.edge.high) high f.edge.high_is;
-              pair_is = f.edge.pair_is;
-              reflected = f.edge.reflected;
-              longer = f.edge.longer;
-            },
-            labeled,
-          )
 
   -- a graph of these parts, however they were read
   made_of : (k : ℕ) (ls : List ℕ) (es : List Edge) → k ≡ (matrix_of roots).rank → ls ≡ lengths → es ≡ edges
@@ -158,9 +174,9 @@ module _ (roots : Roots) (list : List Elem) (word : List ℕ) (p : ℕ) (lengths
       ∙ ap (λ ds. record_of (matrix_of roots).rank p lengths ds) edges_are
 
   pub bruhat_of_parts : (k : ℕ) (ls : List ℕ) (es : List Edge) → k ≡ (matrix_of roots).rank → ls ≡ lengths → es ≡ edges
-      → (g : Graph) → g ≡ record_of k p ls es → IsBruhatGraph roots list p g
+      → (g : Graph) → g ≡ record_of k p ls es → IsBruhatGraph roots list p form g
   bruhat_of_parts k ls es rank_is lengths_are edges_are g is =
-      subst (λ h. IsBruhatGraph roots list p h) (sym (is ∙ made_of k ls es rank_is lengths_are edges_are)) is_bruhat
+      subst (λ h. IsBruhatGraph roots list p form h) (sym (is ∙ made_of k ls es rank_is lengths_are edges_are)) is_bruhat
 
   pub no_fault_of_parts : (k : ℕ) (ls : List ℕ) (es : List Edge) → k ≡ (matrix_of roots).rank → ls ≡ lengths → es ≡ edges
       → (fault : GraphFault) → BreaksFirst (record_of k p ls es) fault → (fault ≡ Memory → ⊥) → ⊥

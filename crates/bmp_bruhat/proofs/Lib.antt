@@ -1,7 +1,10 @@
 pub mod EdgeLemmas
+pub mod OneResidue
 pub mod ResidueLemmas
+pub mod LabelLemmas
 pub mod BuildingLemmas
 pub mod GraphLemmas
+pub mod ZeroLemmas
 pub mod AddingLemmas
 pub mod StepLemmas
 pub mod ReflectionLemmas

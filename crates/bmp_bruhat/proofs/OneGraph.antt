@@ -4,10 +4,13 @@ use Rattle.std.proofs.Math.Path.{fun_ext}
 use Rattle.std.proofs.lemmas.Bool.{cases_lt}
 use Rattle.std.proofs.lemmas.List.{get_or-map, ext_get_or}
 use Rattle.bmp_math.proofs.OneLists.{places_one, rising_one, rising_count}
-use Rattle.bmp_roots.specs.RootPairs.{CartanMatrix, Vector}
-use Rattle.bmp_roots.specs.Pairs.{coordinates}
-use Rattle.bmp_roots.specs.RootSystems.{matrix_of}
+use Rattle.bmp_roots.specs.RootPairs.{CartanMatrix, Vector, RootPair}
+use Rattle.bmp_roots.specs.PositiveRoots.{ArePositiveRoots}
+use Rattle.bmp_roots.specs.RootSystems.{matrix_of, positive_roots_of}
 use Rattle.bmp_roots.specs.declared.root_system.Roots.{Roots}
+use Rattle.bmp_roots.proofs.RootsLemmas.{has_positive_roots}
+use Rattle.bmp_weyl.specs.Words.{IsRootSystem}
+use Rattle.bmp_weyl.proofs.CallLemmas.{root_system}
 use Rattle.bmp_weyl.specs.declared.elem.Elem.{Elem}
 use Rattle.bmp_interval.specs.Intervals.{IsIntervalOf}
 use Rattle.bmp_interval.proofs.OneInterval.{one_interval_of}
@@ -18,8 +21,9 @@ use Rattle.bmp_graph.specs.Graph.{Graph, edge_count, lower, upper, label, label_
 use Rattle.bmp_graph.specs.declared.edge.Edge.{Edge}
 use Rattle.bmp_bruhat.specs.Building.{ComesBefore}
 use Rattle.bmp_bruhat.specs.Labels.{IsResidue, IsLabelOf}
-use Rattle.bmp_bruhat.specs.Edges.{IsEdge, IsBruhatGraph}
-use Rattle.bmp_bruhat.proofs.OneEdge.{one_residue, lengths_one, other_edge, one_root_at}
+use Rattle.bmp_bruhat.specs.Edges.{IsEdge, IsGraphOf, IsBruhatGraph}
+use Rattle.bmp_bruhat.proofs.OneResidue.{one_residue}
+use Rattle.bmp_bruhat.proofs.OneEdge.{lengths_one, other_edge, one_root_at}
 
 -- ---- edges by their ends
 abbrev ends : Graph → ℕ → ℕ × ℕ
@@ -74,35 +78,35 @@ one_coordinates x y rank agree =
       | inr out ↦ (x.leads.fits i).1 out ∙ sym ((y.leads.fits i).1 (omega arith))
     ])
 
-module _ (roots others : Roots) (same : matrix_of roots ≡ matrix_of others) (list : List Elem) (p : ℕ) (g h : Graph)
-    (first : IsBruhatGraph roots list p g) (second : IsBruhatGraph others list p h) where
+module _ (m : CartanMatrix) (roots others : List Vector) (system : IsRootSystem m roots) (positive : ArePositiveRoots m others)
+    (list : List Elem) (p : ℕ) (form : RootPair → Vector) (g h : Graph) (first : IsGraphOf m roots list p form g) (second : IsGraphOf m others list p form h) where
   -- each edge of g has the ends of an edge of h
   edges_among : (e : ℕ) → e < edge_count g → (d : ℕ) × (d < edge_count h) × (ends h d ≡ ends g e)
   edges_among e l =
-      let given : (i : ℕ) × (of : IsEdge roots list (lower g e) (upper g e) i) × IsLabelOf p g.rank (coordinates of.pair.root) (label g e) = first.each e l in
-      let there = other_edge roots others same list (lower g e) (upper g e) given.0 given.1 in
-      let found : (d : ℕ) × (d < edge_count h) × (lower h d ≡ lower g e) × (upper h d ≡ upper g e) = second.all (lower g e) (upper g e) there.0 there.1 in
+      let given : (q : RootPair) × IsEdge m roots list (lower g e) (upper g e) q × IsLabelOf p g.rank (form q) (label g e) = first.each e l in
+      let there = other_edge m roots others system positive list (lower g e) (upper g e) given.0 given.1 in
+      let found : (d : ℕ) × (d < edge_count h) × (lower h d ≡ lower g e) × (upper h d ≡ upper g e) = second.all (lower g e) (upper g e) given.0 there in
       (found.0, found.1, ap₂ (λ a b. (a, b)) found.2 found.3)
 
   ranks_same : g.rank ≡ h.rank
-  ranks_same = first.rank ∙ ap (λ (m : CartanMatrix). m.rank) same ∙ sym second.rank
+  ranks_same = first.rank ∙ sym second.rank
 
   primes_same : g.prime ≡ h.prime
   primes_same = first.prime ∙ sym second.prime
 
   lengths_same : g.lengths ≡ h.lengths
   lengths_same =
-      first.lengths ∙ ap (λ (measure : Elem → ℕ). map measure list) (fun_ext (λ e. lengths_one roots others same e)) ∙ sym second.lengths
+      first.lengths ∙ ap (λ (measure : Elem → ℕ). map measure list) (fun_ext (λ e. lengths_one m roots others system positive e)) ∙ sym second.lengths
 
   -- edges with the same ends have the same form
   forms_same : (e : ℕ) → e < edge_count g → e < edge_count h → lower g e ≡ lower h e → upper g e ≡ upper h e → (i : ℕ) → i < g.rank → label g e i ≡ label h e i
   forms_same e l k low high i inside =
-      let given : (j : ℕ) × (of : IsEdge roots list (lower g e) (upper g e) j) × IsLabelOf p g.rank (coordinates of.pair.root) (label g e) = first.each e l in
-      let other : (j : ℕ) × (of : IsEdge others list (lower h e) (upper h e) j) × IsLabelOf p h.rank (coordinates of.pair.root) (label h e) = second.each e k in
-      let root : coordinates given.1.pair.root ≡ coordinates other.1.pair.root =
-      one_root_at roots others same list (lower g e) (upper g e) given.0 (lower h e) (upper h e) other.0 low high given.1 other.1 in
-      one_residue p (coordinates other.1.pair.root i) (label g e i) (label h e i)
-      (subst (λ (b : Vector). IsResidue p (b i) (label g e i)) root (given.2 i inside))
+      let given : (q : RootPair) × IsEdge m roots list (lower g e) (upper g e) q × IsLabelOf p g.rank (form q) (label g e) = first.each e l in
+      let other : (q : RootPair) × IsEdge m others list (lower h e) (upper h e) q × IsLabelOf p h.rank (form q) (label h e) = second.each e k in
+      let root : given.0 ≡ other.0 =
+      one_root_at m roots others system positive list (lower g e) (upper g e) (lower h e) (upper h e) given.0 other.0 low high given.1 other.1 in
+      one_residue p (form other.0 i) (label g e i) (label h e i)
+      (subst (λ (q : RootPair). IsResidue p (form q i) (label g e i)) root (given.2 i inside))
       (other.2 i (omega (arith, ranks_same)))
 
   module _ (first_graph : IsGraph g) (second_graph : IsGraph h) (e : ℕ) (d : Edge) (l : e < edge_count g) (k : e < edge_count h)
@@ -125,12 +129,13 @@ module _ (roots others : Roots) (same : matrix_of roots ≡ matrix_of others) (l
         one_edge (get_or g.edges e d) (get_or h.edges e d)
         (sym (lower_at g e d l) ∙ low ∙ lower_at h e d k) (sym (upper_at g e d l) ∙ high ∙ upper_at h e d k) label_same
 
-pub graph_is_one : (roots others : Roots) → matrix_of roots ≡ matrix_of others → (list : List Elem) (p : ℕ) (g h : Graph)
-    → IsBruhatGraph roots list p g → IsBruhatGraph others list p h → IsGraph g → IsGraph h → g ≡ h
-graph_is_one roots others same list p g h first second first_graph second_graph =
-    ap (λ n. made n g.prime g.lengths g.edges) (ranks_same roots others same list p g h first second)
-    ∙ ap (λ n. made h.rank n g.lengths g.edges) (primes_same roots others same list p g h first second)
-    ∙ ap (λ ls. made h.rank h.prime ls g.edges) (lengths_same roots others same list p g h first second)
+pub one_graph : (m : CartanMatrix) (roots others : List Vector) → IsRootSystem m roots → ArePositiveRoots m others
+    → (list : List Elem) (p : ℕ) (form : RootPair → Vector) (g h : Graph)
+    → IsGraphOf m roots list p form g → IsGraphOf m others list p form h → IsGraph g → IsGraph h → g ≡ h
+one_graph m roots others system positive list p form g h first second first_graph second_graph =
+    ap (λ n. made n g.prime g.lengths g.edges) (ranks_same m roots others system positive list p form g h first second)
+    ∙ ap (λ n. made h.rank n g.lengths g.edges) (primes_same m roots others system positive list p form g h first second)
+    ∙ ap (λ ls. made h.rank h.prime ls g.edges) (lengths_same m roots others system positive list p form g h first second)
     ∙ ap (λ es. made h.rank h.prime h.lengths es) edges
   where
     made : ℕ → ℕ → List ℕ → List Edge → Graph
@@ -143,10 +148,10 @@ graph_is_one roots others same list p g h first second first_graph second_graph 
     other_rise = ends_rise h second_graph
 
     among : (e : ℕ) → e < edge_count g → (d : ℕ) × (d < edge_count h) × (ends h d ≡ ends g e)
-    among = edges_among roots others same list p g h first second
+    among = edges_among m roots others system positive list p form g h first second
 
     back : (e : ℕ) → e < edge_count h → (d : ℕ) × (d < edge_count g) × (ends g d ≡ ends h e)
-    back = edges_among others roots (sym same) list p h g second first
+    back = edges_among m others roots (record { form = system.form; finite = system.finite; positive = positive }) system.positive list p form h g second first
 
     edges : g.edges ≡ h.edges
     edges =
@@ -154,12 +159,20 @@ graph_is_one roots others same list p g h first second first_graph second_graph 
         (rising_count Before never_before before_chained (ends g) (ends h) (edge_count g) (edge_count h) rise other_rise among back)
         (λ e d l.
         let there : (e < edge_count h) × (ends h e ≡ ends g e) = rising_one Before never_before before_chained (ends g) (ends h) (edge_count g) (edge_count h) rise other_rise among back e l in
-        edge_same roots others same list p g h first second first_graph second_graph e d l there.0
+        edge_same m roots others system positive list p form g h first second first_graph second_graph e d l there.0
         (sym (ap (λ k. k.0) there.1)) (sym (ap (λ k. k.1) there.1)))
 
+-- for root systems of one matrix
+pub graph_is_one : (roots others : Roots) → matrix_of roots ≡ matrix_of others → (list : List Elem) (p : ℕ) (form : RootPair → Vector) (g h : Graph)
+    → IsBruhatGraph roots list p form g → IsBruhatGraph others list p form h → IsGraph g → IsGraph h → g ≡ h
+graph_is_one roots others same list p form g h first second =
+    one_graph (matrix_of roots) (positive_roots_of roots) (positive_roots_of others) (root_system roots)
+    (subst (λ (m : CartanMatrix). ArePositiveRoots m (positive_roots_of others)) (sym same) (has_positive_roots others)) list p form g h first
+    (subst (λ (m : CartanMatrix). IsGraphOf m (positive_roots_of others) list p form h) (sym same) second)
+
 -- a word has one graph
-pub graph_of_word : (roots others : Roots) → matrix_of roots ≡ matrix_of others → (word : List ℕ) (list other : List Elem) (p : ℕ) (g h : Graph)
-    → IsIntervalOf roots word list → IsIntervalOf others word other → IsBruhatGraph roots list p g → IsBruhatGraph others other p h → IsGraph g → IsGraph h → g ≡ h
-graph_of_word roots others same word list other p g h some more first second =
-    graph_is_one roots others same list p g h first
-    (subst (λ (vertices : List Elem). IsBruhatGraph others vertices p h) (sym (one_interval_of roots others same word list other some more)) second)
+pub graph_of_word : (roots others : Roots) → matrix_of roots ≡ matrix_of others → (word : List ℕ) (list other : List Elem) (p : ℕ) (form : RootPair → Vector) (g h : Graph)
+    → IsIntervalOf roots word list → IsIntervalOf others word other → IsBruhatGraph roots list p form g → IsBruhatGraph others other p form h → IsGraph g → IsGraph h → g ≡ h
+graph_of_word roots others same word list other p form g h some more first second =
+    graph_is_one roots others same list p form g h first
+    (subst (λ (vertices : List Elem). IsBruhatGraph others vertices p form h) (sym (one_interval_of roots others same word list other some more)) second)

@@ -1,31 +1,32 @@
 -- The laws of Bruhat moment graphs, as statements.
---   EdgeIsUnique         two vertices have at most one edge: one root whose reflection leads from the one to the other
---   LabelIsNotZero       no positive root is zero modulo a number from 2 on
+--   EdgeIsUnique         two vertices have at most one edge: one root pair whose reflection leads from the one to the other
+--   LabelIsNotZero       no root is zero modulo a number from 2 on
 --   ReflectionIsEdge     where a reflection leads from a vertex to a vertex, an edge joins them, one way and not the other
 --   GraphIsOne           the vertices have one graph, whatever the order of the positive roots
-use Rattle.std.specs.Prelude.{◌≡◌, ℕ, ◌<◌, ◌≤◌, ◌⊎◌, List, slice_get, Some}
-use Rattle.bmp_roots.specs.Pairs.{coordinates, pair_of}
-use Rattle.bmp_roots.specs.RootSystems.{matrix_of, positives}
-use Rattle.bmp_roots.specs.declared.root_pair.Pair.{Pair}
-use Rattle.bmp_roots.specs.declared.root_system.Roots.{Roots}
+use Rattle.std.specs.Prelude.{◌≡◌, ℕ, ◌≤◌, ◌⊎◌, List, slice_get, Some}
+use Rattle.bmp_roots.specs.RootPairs.{CartanMatrix, Vector, RootPair, IsRootPair, IsPositive, HasCartanForm}
+use Rattle.bmp_roots.specs.PositiveRoots.{ArePositiveRoots}
+use Rattle.bmp_weyl.specs.Words.{IsRootSystem}
 use Rattle.bmp_weyl.specs.declared.elem.Elem.{Elem}
 use Rattle.bmp_graph.specs.Graph.{Graph, IsGraph}
-use Rattle.bmp_bruhat.specs.Labels.{IsLabelOf}
-use Rattle.bmp_bruhat.specs.Edges.{IsReflectedTo, IsEdge, IsBruhatGraph}
+use Rattle.bmp_bruhat.specs.Labels.{root_form, IsZeroForm}
+use Rattle.bmp_bruhat.specs.Edges.{IsReflectedTo, IsEdge, IsGraphOf}
 
 abbrev pub EdgeIsUnique : Type 0
-EdgeIsUnique = (roots : Roots) (list : List Elem) (x y i j : ℕ) → IsEdge roots list x y i → IsEdge roots list x y j → i ≡ j
+EdgeIsUnique = (m : CartanMatrix) (roots : List Vector) → IsRootSystem m roots → (list : List Elem) (x y : ℕ) (q p : RootPair)
+    → IsEdge m roots list x y q → IsEdge m roots list x y p → q ≡ p
 
 abbrev pub LabelIsNotZero : Type 0
-LabelIsNotZero = (roots : Roots) (i : ℕ) (pair : Pair) → slice_get (positives roots) i ≡ Some pair → (p : ℕ) → 2 ≤ p
-    → (a : ℕ → ℕ) → IsLabelOf p (matrix_of roots).rank (coordinates pair.root) a → ((j : ℕ) → j < (matrix_of roots).rank → a j ≡ 0) → ⊥
+LabelIsNotZero = (m : CartanMatrix) → HasCartanForm m → (q : RootPair) → IsRootPair m q
+    → (p : ℕ) → 2 ≤ p → IsZeroForm p m.rank (root_form q) → ⊥
 
 abbrev pub ReflectionIsEdge : Type 0
-ReflectionIsEdge = (roots : Roots) (list : List Elem) (x y i : ℕ) (low high : Elem) (pair : Pair)
-    → slice_get list x ≡ Some low → slice_get list y ≡ Some high → slice_get (positives roots) i ≡ Some pair
-    → IsReflectedTo (matrix_of roots) (pair_of pair) low high
-    → IsEdge roots list x y i ⊎ IsEdge roots list y x i
+ReflectionIsEdge = (m : CartanMatrix) (roots : List Vector) → IsRootSystem m roots
+    → (list : List Elem) (x y : ℕ) (low high : Elem) → slice_get list x ≡ Some low → slice_get list y ≡ Some high
+    → (q : RootPair) → IsRootPair m q → IsPositive m q.root → IsReflectedTo m q low high
+    → IsEdge m roots list x y q ⊎ IsEdge m roots list y x q
 
 abbrev pub GraphIsOne : Type 0
-GraphIsOne = (roots others : Roots) → matrix_of roots ≡ matrix_of others → (list : List Elem) (p : ℕ) (g h : Graph)
-    → IsBruhatGraph roots list p g → IsBruhatGraph others list p h → IsGraph g → IsGraph h → g ≡ h
+GraphIsOne = (m : CartanMatrix) (roots others : List Vector) → IsRootSystem m roots → ArePositiveRoots m others
+    → (list : List Elem) (p : ℕ) (form : RootPair → Vector) (g h : Graph)
+    → IsGraphOf m roots list p form g → IsGraphOf m others list p form h → IsGraph g → IsGraph h → g ≡ h

@@ -4,21 +4,26 @@ ghost use Rattle.bmp_roots.specs.RootSystems.{positives};
 ghost use Rattle.bmp_roots.specs.declared.root_pair.Pair.{Pair};
 ghost use Rattle.bmp_interval.specs.Intervals.{IsIntervalOf};
 ghost use Rattle.bmp_interval.specs.IntervalViews.{system_of, letters_of, vertices_of};
-ghost use Rattle.bmp_graph.specs.declared.edge.Edge.{Edge};
-ghost use Rattle.bmp_bruhat.specs.Building.{ComesBefore, IsReflectionOf, HasReflections, HasEdgesUpTo};
+ghost use Rattle.bmp_roots.specs.RootSystems.{matrix_of};
+ghost use Rattle.bmp_roots.specs.Pairs.{pair_of};
+ghost use Rattle.bmp_weyl.specs.Elements.{IsReflection};
+ghost use Rattle.bmp_weyl.specs.declared.elem.Elem.{Elem};
+ghost use Rattle.bmp_bruhat.specs.Building.{ComesBefore, HasReflections, HasEdgesUpTo};
+ghost use Rattle.bmp_bruhat.specs.declared.root_edge.RootEdge.{RootEdge};
 
-use crate::reflection::Reflection;
-use bmp_graph::Edge;
+use crate::reflections::reflections;
+use crate::root_edge::RootEdge;
 use bmp_interval::Interval;
+use bmp_weyl::Elem;
 use std::alloc::{AllocError, Global};
 
 /// Where an edge with these ends goes: behind the last that is not greater.
-fn place_of(edges: &[Edge], lower: u32, upper: u32) -> usize
+fn place_of(edges: &[RootEdge], lower: u32, upper: u32) -> usize
     ensures within { result ≤ length edges.now }
-    ensures after { (e : ℕ) (o : Edge) → result ≤ e → e < length edges.now
+    ensures after { (e : ℕ) (o : RootEdge) → result ≤ e → e < length edges.now
         → ComesBefore lower upper
         (slice_index_or edges.now e o).lower (slice_index_or edges.now e o).upper }
-    ensures before { (e : ℕ) (o : Edge) → e + 1 ≡ result
+    ensures before { (e : ℕ) (o : RootEdge) → e + 1 ≡ result
         → ComesBefore lower upper
         (slice_index_or edges.now e o).lower (slice_index_or edges.now e o).upper → ⊥ }
 {
@@ -30,7 +35,7 @@ fn place_of(edges: &[Edge], lower: u32, upper: u32) -> usize
 }
 
 /// Whether the ends come before those of an edge.
-fn is_less(lower: u32, upper: u32, edge: &Edge) -> bool
+fn is_less(lower: u32, upper: u32, edge: &RootEdge) -> bool
     ensures { IsTrue result ↔ ComesBefore lower upper edge.now.lower edge.now.upper }
 {
     (lower, upper) < (edge.lower, edge.upper)
@@ -41,20 +46,18 @@ pub fn add_edge(
     interval: &Interval,
     x: u32,
     i: u32,
-    reflection: &Reflection,
-    prime: u8,
-    edges: &mut Vec<Edge>,
+    reflection: &Elem,
+    edges: &mut Vec<RootEdge>,
 ) -> Result<(), AllocError>
     requires interval { IsIntervalOf (system_of interval.now) (letters_of interval.now) (vertices_of interval.now) }
     requires vertex { x < length (vertices_of interval.now) }
     requires root { i < length (positives (system_of interval.now)) }
     requires reflection { (pair : Pair) → slice_get (positives (system_of interval.now)) i ≡ Some pair
-        → IsReflectionOf (system_of interval.now) prime pair reflection.now }
-    requires edges { HasEdgesUpTo (system_of interval.now) (vertices_of interval.now) prime x i edges.old.items }
-    ensures { OnOk result
-        (HasEdgesUpTo (system_of interval.now) (vertices_of interval.now) prime x (i + 1) edges.new.items) }
+        → IsReflection (matrix_of (system_of interval.now)) (pair_of pair) reflection.now }
+    requires edges { HasEdgesUpTo (system_of interval.now) (vertices_of interval.now) x i edges.old.items }
+    ensures { OnOk result (HasEdgesUpTo (system_of interval.now) (vertices_of interval.now) x (i + 1) edges.new.items) }
 {
-    let above = reflection.elem.mul(interval.elem(x));
+    let above = reflection.mul(interval.elem(x));
     let Some(y) = interval.number_of(&above) else {
         return Ok(());
     };
@@ -62,10 +65,10 @@ pub fn add_edge(
         let place = place_of(edges, x, y);
         edges.insert(
             place,
-            Edge {
+            RootEdge {
                 lower: x,
                 upper: y,
-                label: reflection.label,
+                root: i,
             },
         )?;
     }
@@ -76,34 +79,31 @@ pub fn add_edge(
 fn add_edges(
     interval: &Interval,
     x: u32,
-    reflections: &[Reflection],
-    prime: u8,
-    edges: &mut Vec<Edge>,
+    reflections: &[Elem],
+    edges: &mut Vec<RootEdge>,
 ) -> Result<(), AllocError>
     requires interval { IsIntervalOf (system_of interval.now) (letters_of interval.now) (vertices_of interval.now) }
     requires vertex { x < length (vertices_of interval.now) }
-    requires reflections { HasReflections (system_of interval.now) prime
-        (length (positives (system_of interval.now))) reflections.now }
-    requires edges { HasEdgesUpTo (system_of interval.now) (vertices_of interval.now) prime x 0 edges.old.items }
-    ensures { OnOk result
-        (HasEdgesUpTo (system_of interval.now) (vertices_of interval.now) prime (x + 1) 0 edges.new.items) }
+    requires reflections { HasReflections (system_of interval.now) (length (positives (system_of interval.now)))
+        reflections.now }
+    requires edges { HasEdgesUpTo (system_of interval.now) (vertices_of interval.now) x 0 edges.old.items }
+    ensures { OnOk result (HasEdgesUpTo (system_of interval.now) (vertices_of interval.now) (x + 1) 0 edges.new.items) }
 {
     for (i, reflection) in reflections.iter().enumerate() {
-        add_edge(interval, x, i as u32, reflection, prime, edges)?;
+        add_edge(interval, x, i as u32, reflection, edges)?;
     }
     Ok(())
 }
 
-/// The edges of all vertices, by lower and then by upper end.
-pub fn edges_of(alloc: Global, interval: &Interval, prime: u8) -> Result<Vec<Edge>, AllocError>
-    requires { 2 ≤ prime }
-    ensures { IfOk result (λ edges. HasEdgesUpTo (system_of interval.now) (vertices_of interval.now) prime
+/// The edges of all vertices with their roots, by lower and then by upper end.
+pub fn edges_of(alloc: Global, interval: &Interval) -> Result<Vec<RootEdge>, AllocError>
+    ensures { IfOk result (λ edges. HasEdgesUpTo (system_of interval.now) (vertices_of interval.now)
         (length (vertices_of interval.now)) 0 edges.items) }
 {
-    let reflections = Reflection::all(alloc, interval.roots(), prime)?;
+    let reflections = reflections(alloc, interval.roots())?;
     let mut edges = Vec::new(alloc);
     for x in 0..interval.len() {
-        add_edges(interval, x, &reflections, prime, &mut edges)?;
+        add_edges(interval, x, &reflections, &mut edges)?;
     }
     Ok(edges)
 }

@@ -6,7 +6,7 @@ pub fn edge_is_unique()
     ensures { EdgeIsUnique }
 {}
 
-/// No positive root is zero modulo a number from 2 on.
+/// No root is zero modulo a number from 2 on.
 pub fn label_is_not_zero()
     ensures { LabelIsNotZero }
 {}
@@ -16,7 +16,7 @@ pub fn reflection_is_edge()
     ensures { ReflectionIsEdge }
 {}
 
-/// The vertices of an interval have one graph: two root systems of one Cartan matrix give the same.
+/// The vertices of an interval have one graph, whatever the order in which the positive roots are listed.
 pub fn graph_is_one()
     ensures { GraphIsOne }
 {}

@@ -9,8 +9,8 @@
 --   IsFirstPartner g x d e      e is the first later edge at x to which d is parallel
 --   IsFirstAt g x d e           d and e are the first parallel pair at x, by first, then second edge
 --   IsFirstParallelPair g x d e    the first parallel pair of all, by vertex, then first, then second edge
-use Rattle.std.specs.Prelude.{◌≡◌, ℕ, ◌+◌, ◌<◌, ◌≤◌, ⊤}
-use Rattle.bmp_graph.specs.Graph.{Graph, vertex_count, edge_count, length_at, HasEnds, HasLabel, IsBefore, IsEndOf, IsParallel}
+use Rattle.std.specs.Prelude.{◌≡◌, ℕ, ◌+◌, ◌<◌, ◌≤◌}
+use Rattle.bmp_graph.specs.Graph.{Graph, vertex_count, edge_count, length_at, HasEnds, HasLabel, IsBefore, IsGraph, IsEndOf, IsParallel}
 use Rattle.bmp_graph.specs.declared.fault.GraphFault.{GraphFault}
 use Rattle.bmp_graph.specs.declared.fault.GraphFault.TheVariants.{Empty, LengthFalls, EdgeEnds, EdgeOrder, LabelOf, Memory}
 
@@ -30,7 +30,7 @@ pub record IsFirstFailure (n : ℕ) (P : ℕ → Type 0) (i : ℕ) : Type 0 wher
   pub broken : P i → ⊥
   pub before : HoldsBelow i P
 
--- the rules come in the order of the variants, and Memory says nothing
+-- the rules come in the order of the variants, and memory is wanted only for a graph that keeps them all
 abbrev pub BreaksFirst : Graph → GraphFault → Type 0
 BreaksFirst g Empty = vertex_count g ≡ 0
 BreaksFirst g (LengthFalls x) = (0 < vertex_count g) × IsFirstFailure (vertex_count g) (KeepsLength g) x
@@ -40,7 +40,7 @@ BreaksFirst g (EdgeOrder e) = (0 < vertex_count g) × HoldsBelow (vertex_count g
     × HoldsBelow (edge_count g) (HasEnds g) × IsFirstFailure (edge_count g) (KeepsOrder g) e
 BreaksFirst g (LabelOf e) = (0 < vertex_count g) × HoldsBelow (vertex_count g) (KeepsLength g)
     × HoldsBelow (edge_count g) (HasEnds g) × HoldsBelow (edge_count g) (KeepsOrder g) × IsFirstFailure (edge_count g) (HasLabel g) e
-BreaksFirst g Memory = ⊤
+BreaksFirst g Memory = IsGraph g
 
 -- d and e, d less than e, have the end x and are parallel
 pub record IsParallelPair (g : Graph) (x d e : ℕ) : Type 0 where

@@ -22,8 +22,8 @@ pub enum GraphFault {
     /// The first edge whose label has another rank or prime than the graph.
     #[error("the label of edge {edge} has another rank or prime")]
     LabelOf { edge: u32 },
-    /// There was no memory.
-    #[error("no memory")]
+    /// All rules hold, and there was no memory.
+    #[error("there was no memory")]
     Memory,
 }
 

@@ -12,8 +12,6 @@ pub mod graph;
 pub mod laws;
 mod parts;
 mod tables;
-#[cfg(test)]
-mod tests;
 
 pub use edge::Edge;
 pub use fault::{GkmPair, GraphFault};

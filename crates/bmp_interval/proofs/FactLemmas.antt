@@ -1,9 +1,10 @@
 -- What any `Interval` holds.
-use Rattle.std.proofs.Common.{◌≡◌, ℕ, ◌-◌, ◌<◌, ◌≤◌, arith, sym, subst, inl, inr, List, [], length, get_or, map}
+use Rattle.std.proofs.Common.{◌≡◌, ℕ, ◌-◌, ◌<◌, ◌≤◌, arith, sym, subst, inl, inr, ◌∙◌, Some, slice_get, List, [], length, get_or, map}
 use Rattle.std.specs.List.{All}
 use Rattle.std.proofs.lemmas.Bool.{cases_eq}
 use Rattle.std.proofs.lemmas.Grind.{not_there}
 use Rattle.std.proofs.lemmas.List.{get_or-map, length-map}
+use Rattle.std.proofs.lemmas.Option.{slice_get_within, get_or_from_slice_get}
 use Rattle.std.proofs.lemmas.List.Elements.{All-nil}
 use Rattle.bmp_roots.specs.RootPairs.{CartanMatrix, Vector}
 use Rattle.bmp_roots.specs.RootSystems.{matrix_of, positive_roots_of}
@@ -14,9 +15,11 @@ use Rattle.bmp_weyl.specs.Words.{IsWord, IsRootSystem, IsReduced, length_of}
 use Rattle.bmp_weyl.specs.Elements.{IsLetter, word_of, element_length}
 use Rattle.bmp_weyl.specs.declared.elem.Elem.{Elem}
 use Rattle.bmp_interval.specs.Vertices.{HasVertices, number_of}
-use Rattle.bmp_interval.specs.Intervals.{IsInterval}
+use Rattle.bmp_interval.specs.Limits.{max_vertices}
+use Rattle.bmp_interval.specs.Intervals.{IsInterval, IsIntervalOf}
 use Rattle.bmp_interval.specs.Numbering.{IsSortedList}
 use Rattle.bmp_interval.specs.declared.interval.Interval.{Interval}
+use Rattle.bmp_interval.proofs.CountLemmas.{once_apart}
 use Rattle.bmp_interval.proofs.OrderLemmas.{sorted_number, sorted_rises}
 use Rattle.bmp_interval.proofs.IntervalLemmas.{bottom_is, top_is, product_decided, stable_vertices, not_empty}
 
@@ -40,7 +43,7 @@ at_most_decided a b =
 
 -- what is sorted makes an interval
 pub interval_made : (roots : Roots) (word : List ℕ) (found list : List Elem) (lengths : List ℕ) → All (IsLetter (matrix_of roots).rank) word
-    → IsReduced (matrix_of roots) (positive_roots_of roots) (word_of word) → HasVertices (matrix_of roots) (word_of word) found → length found ≤ 2048
+    → IsReduced (matrix_of roots) (positive_roots_of roots) (word_of word) → HasVertices (matrix_of roots) (word_of word) found → length found ≤ max_vertices
     → IsSortedList (positive_roots_of roots) found list lengths → IsInterval (matrix_of roots) (positive_roots_of roots) (word_of word) list
 interval_made roots word found list lengths letters reduced vertices few sorted =
     let is_word : IsWord (matrix_of roots) (word_of word) = letters_word (matrix_of roots).rank word letters in
@@ -74,7 +77,7 @@ module _ (interval : Interval) where
       let holds : (IsInterval m roots word list → ⊥) → ⊥ = not_there interval.interval in
       record {
         reduced = stable (cases_eq (length_of m roots word) (length word)) (λ never. holds (λ h. never h.reduced));
-        few = stable (at_most_decided (length list) 2048) (λ never. holds (λ h. never h.few));
+        few = stable (at_most_decided (length list) max_vertices) (λ never. holds (λ h. never h.few));
         vertices = stable_vertices m word word_is list (λ never. holds (λ h. never h.vertices));
         numbered = λ x d l. stable (cases_eq (number_of roots list (get_or list x d)) x) (λ never. holds (λ h. never (h.numbered x d l)));
         rising = λ x y d k l.
@@ -83,6 +86,16 @@ module _ (interval : Interval) where
             stable (product_decided m word word_is [] (All-nil (λ k. k < m.rank)) (get_or list 0 d)) (λ never. holds (λ h. never (h.bottom d)));
         top = λ d. stable (product_decided m word word_is word word_is (get_or list (length list - 1) d)) (λ never. holds (λ h. never (h.top d)));
       }
+
+  pub interval_of_is : IsIntervalOf interval.roots interval.word interval.elements.keys
+  interval_of_is = record { letters = interval.letters; interval = interval_is }
+
+  -- a vertex stands at one place
+  pub one_vertex_place : (i j : ℕ) (e : Elem) → slice_get interval.elements.keys i ≡ Some e → ((d : Elem) → get_or interval.elements.keys j d ≡ e)
+      → j < length interval.elements.keys → j ≡ i
+  one_vertex_place i j e at there within =
+      once_apart interval.elements.keys interval_is.vertices.once j i e within (slice_get_within interval.elements.keys i e at)
+      (there e ∙ sym (get_or_from_slice_get interval.elements.keys i e e at))
 
 -- ---- the same values once more
 pub interval_moved : (roots copy : Roots) (word letters : List ℕ) (list keys : List Elem) → copy ≡ roots → letters ≡ word → keys ≡ list

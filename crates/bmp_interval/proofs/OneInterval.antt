@@ -50,5 +50,5 @@ pub one_interval_of : (roots others : Roots) → matrix_of roots ≡ matrix_of o
     → (word : List ℕ) (list other : List Elem) → IsIntervalOf roots word list → IsIntervalOf others word other → list ≡ other
 one_interval_of roots others same word list other first second =
     one_interval (matrix_of roots) (word_of word) (positive_roots_of roots) (positive_roots_of others) (has_positive_roots roots)
-    (subst (λ (m : CartanMatrix). ArePositiveRoots m (positive_roots_of others)) (sym same) (has_positive_roots others)) list other first
-    (subst (λ (m : CartanMatrix). IsInterval m (positive_roots_of others) (word_of word) other) (sym same) second)
+    (subst (λ (m : CartanMatrix). ArePositiveRoots m (positive_roots_of others)) (sym same) (has_positive_roots others)) list other first.interval
+    (subst (λ (m : CartanMatrix). IsInterval m (positive_roots_of others) (word_of word) other) (sym same) second.interval)

@@ -1,3 +1,4 @@
+pub mod Limits
 pub mod Vertices
 pub mod Intervals
 pub mod Statements

@@ -6,6 +6,7 @@ ghost use Rattle.bmp_math.specs.Lists.{Member};
 ghost use Rattle.bmp_roots.specs.RootSystems.{matrix_of};
 ghost use Rattle.bmp_weyl.specs.Elements.{AreElementsOfOne, IsLetter, word_of};
 ghost use Rattle.bmp_weyl.specs.declared.elem.Elem.{Elem};
+ghost use Rattle.bmp_interval.specs.Limits.{max_vertices};
 ghost use Rattle.bmp_interval.specs.Vertices.{HasVertices, HasMoreVertices};
 ghost use Rattle.bmp_interval.specs.Growth.{IsAdded, IsGrowing};
 
@@ -15,7 +16,7 @@ use indexmap::IndexSet;
 use std::alloc::{AllocError, Global};
 
 /// The greatest number of vertices.
-pub const MAX_VERTICES: usize = 2048;
+pub const MAX_VERTICES: usize = 4096;
 
 /// Adds an element, unless the set has it.
 pub fn add(set: &mut IndexSet<Elem>, e: Elem) -> Result<(), AllocError>
@@ -39,13 +40,13 @@ fn element_at(set: &IndexSet<Elem>, i: usize) -> Elem
 // first one too many.
 fn grow(set: &mut IndexSet<Elem>, simple: &Elem) -> Result<bool, AllocError>
     requires elements { (x : Elem) → Member x set.old.keys → AreElementsOfOne x simple.now }
-    requires few { length set.old.keys ≤ MAX_VERTICES }
+    requires few { length set.old.keys ≤ max_vertices }
     ensures grown { IfOk result (λ fits.
         OnTrue fits (IsGrowing simple.now (length set.old.keys) set.old.keys set.new.keys)) }
-    ensures few { IfOk result (λ fits. OnTrue fits (length set.new.keys ≤ MAX_VERTICES)) }
+    ensures few { IfOk result (λ fits. OnTrue fits (length set.new.keys ≤ max_vertices)) }
     ensures too_many { IfOk result (λ fits. OnFalse fits
         ((i : ℕ) × IsGrowing simple.now i set.old.keys set.new.keys
-        × (MAX_VERTICES < length set.new.keys))) }
+        × (max_vertices < length set.new.keys))) }
 {
     let count = set.len();
     for i in 0..count {
@@ -66,9 +67,9 @@ pub fn vertices(
 ) -> Result<Option<IndexSet<Elem>>, AllocError>
     requires { All (IsLetter (matrix_of roots.now).rank) word.now }
     ensures vertices { IfOk result (λ set. MatchOption set
-        (HasMoreVertices (matrix_of roots.now) (word_of word.now) MAX_VERTICES)
+        (HasMoreVertices (matrix_of roots.now) (word_of word.now) max_vertices)
         (λ found. HasVertices (matrix_of roots.now) (word_of word.now) found.keys)) }
-    ensures few { IfOk result (λ set. IfSome set (λ found. length found.keys ≤ MAX_VERTICES)) }
+    ensures few { IfOk result (λ set. IfSome set (λ found. length found.keys ≤ max_vertices)) }
 {
     let mut set = IndexSet::new(alloc);
     add(&mut set, Elem::identity(roots))?;

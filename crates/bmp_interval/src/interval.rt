@@ -4,7 +4,8 @@ ghost use Rattle.std.specs.List.{All};
 ghost use Rattle.bmp_roots.specs.RootSystems.{matrix_of, positive_roots_of};
 ghost use Rattle.bmp_weyl.specs.Words.{length_of, IsReduced};
 ghost use Rattle.bmp_weyl.specs.Elements.{IsLetter, word_of, element_length};
-ghost use Rattle.bmp_interval.specs.Intervals.{IsIntervalOf};
+ghost use Rattle.bmp_interval.specs.Intervals.{IsInterval, IsIntervalOf};
+ghost use Rattle.bmp_interval.specs.Limits.{max_vertices};
 
 use crate::fault::IntervalFault;
 use crate::growth::{MAX_VERTICES, vertices};
@@ -14,7 +15,7 @@ use bmp_weyl::{Elem, Letters, product};
 use indexmap::IndexSet;
 use std::alloc::{AllocError, Global};
 
-/// The vertices below a reduced word: the products of its subsequences, at most 2,048, numbered from
+/// The vertices below a reduced word: the products of its subsequences, at most 4,096, numbered from
 /// 0 by length and then by matrix, row by row.
 #[derive(Drop)]
 pub struct Interval {
@@ -23,7 +24,7 @@ pub struct Interval {
     elements: IndexSet<Elem>,
     lengths: Vec<u32>,
     pub ghost letters: { All (IsLetter (matrix_of roots).rank) word },
-    pub ghost interval: { ∥ IsIntervalOf roots word elements.keys ∥₁ },
+    pub ghost interval: { ∥ IsInterval (matrix_of roots) (positive_roots_of roots) (word_of word) elements.keys ∥₁ },
     pub ghost measured: { lengths.items ≡ map (element_length (positive_roots_of roots)) elements.keys },
 }
 
@@ -51,7 +52,7 @@ fn letters(alloc: Global, word: &[u8]) -> Result<Letters, AllocError>
 }
 
 impl Interval {
-    ghost use Rattle.std.specs.Prelude.{slice_index_or, IfErr, IfSome, IfNone};
+    ghost use Rattle.std.specs.Prelude.{slice_index_or, slice_get, Some, IfErr, IfSome, IfNone};
     ghost use Rattle.bmp_weyl.specs.declared.elem.Elem.{Elem};
     ghost use Rattle.bmp_interval.specs.Vertices.{IsVertex, HasVertices};
     ghost use Rattle.bmp_interval.specs.Intervals.{IsFault};
@@ -67,7 +68,7 @@ impl Interval {
         requires letters { All (IsLetter (matrix_of roots.now).rank) word.now }
         requires reduced { IsReduced (matrix_of roots.now) (positive_roots_of roots.now) (word_of word.now) }
         requires vertices { HasVertices (matrix_of roots.now) (word_of word.now) found.now.keys }
-        requires few { length found.now.keys ≤ MAX_VERTICES }
+        requires few { length found.now.keys ≤ max_vertices }
         ensures interval { IfOk result (λ interval.
             IsIntervalOf roots.now word.now (vertices_of interval)) }
         ensures system { IfOk result (λ interval. system_of interval ≡ roots.now) }
@@ -87,7 +88,8 @@ impl Interval {
     }
 
     /// The interval below a word whose letters are 1 to the rank. A word that is longer than its
-    /// product is not reduced, whatever its vertices; a reduced word may have more than 2,048.
+    /// product is not reduced, which is answered first; a reduced word may have more than 4,096
+    /// vertices, or more than memory has room for.
     pub fn below(alloc: Global, roots: &Roots, word: &[u8]) -> Result<Interval, IntervalFault>
         requires letters { All (IsLetter (matrix_of roots.now).rank) word.now }
         requires short { length word.now < 2 ^ 32 }
@@ -114,11 +116,11 @@ impl Interval {
         }
     }
 
-    /// The number of vertices, 1 to 2,048.
+    /// The number of vertices, 1 to 4,096.
     pub fn len(&self) -> u32
         ensures value { result ≡ length (vertices_of self.now) }
         ensures at_least_one { 1 ≤ result }
-        ensures at_most { result ≤ 2048 }
+        ensures at_most { result ≤ max_vertices }
         ensures interval { IsIntervalOf (system_of self.now) (letters_of self.now) (vertices_of self.now) }
     {
         self.elements.len() as u32
@@ -152,7 +154,8 @@ impl Interval {
 
     /// The reduced word.
     pub fn word(&self) -> &Letters
-        ensures { result.now ≡ letters_of self.now }
+        ensures word { result.now ≡ letters_of self.now }
+        ensures letters { All (IsLetter (matrix_of (system_of self.now)).rank) result.now }
     {
         &self.word
     }
@@ -164,6 +167,7 @@ impl Interval {
             (d : Elem) → slice_index_or (vertices_of self.now) x d ≡ e.now) }
         ensures none { IfNone result
             (IsVertex (matrix_of (system_of self.now)) (word_below self.now) e.now → ⊥) }
+        ensures back { (x : ℕ) → slice_get (vertices_of self.now) x ≡ Some e.now → result ≡ Some x }
     {
         match self.elements.get_index_of(e) {
             Some(x) => Some(x as u32),

@@ -1,4 +1,4 @@
-//! Bruhat intervals below a reduced word: the products of its subsequences, numbered.
+//! The vertices below a reduced word: the products of its subsequences, numbered.
 //!
 //! `Interval::below` makes the list of these vertices, each once, by length and then by matrix, or
 //! says why it does not. Vertices are numbered from 0: the identity is 0, and the product of the
@@ -10,8 +10,6 @@ mod growth;
 pub mod interval;
 pub mod laws;
 mod numbering;
-#[cfg(test)]
-mod tests;
 
 pub use fault::IntervalFault;
 pub use interval::Interval;

@@ -4,8 +4,9 @@ use Rattle.std.proofs.lemmas.Grind.{not_there}
 use Rattle.std.proofs.lemmas.List.{length-map}
 use Rattle.bmp_math.specs.Lists.{Member}
 use Rattle.bmp_math.proofs.ListLemmas.{member_at}
-use Rattle.bmp_roots.specs.RootPairs.{CartanMatrix, Vector, RootPair, IsRootPair, IsPositive, AreRootPairs, HasFiniteSystem}
+use Rattle.bmp_roots.specs.RootPairs.{CartanMatrix, Vector, RootPair, IsRootPair, IsPositive, AreRootPairs, HasCartanForm, HasFiniteSystem}
 use Rattle.bmp_roots.specs.PositiveRoots.{has_negative, positive_pairs, ArePositiveRoots}
+use Rattle.bmp_roots.specs.Closing.{IsClosed}
 use Rattle.bmp_roots.specs.Pairs.{coordinates, pair_of, pairs_of, positives_of}
 use Rattle.bmp_roots.specs.RootSystems.{matrix_of, list_of, positives, positive_roots_of}
 use Rattle.bmp_roots.specs.declared.root_pair.Pair.{Pair}
@@ -27,6 +28,14 @@ roots_of_pairs : (ps : List Pair) → map (λ p. coordinates p.root) ps ≡ map 
 roots_of_pairs [] = refl
 roots_of_pairs (p ∷ ps) = ap (λ vs. coordinates p.root ∷ vs) (roots_of_pairs ps)
 
+-- the roots of the positive pairs of the machine
+pub positive_roots_of_pairs : (m : CartanMatrix) → HasCartanForm m → (pairs positive : List Pair) → ((IsClosed m (pairs_of pairs) → ⊥) → ⊥)
+    → positive ≡ positives_of m.rank pairs → ArePositiveRoots m (map (λ p. coordinates p.root) positive)
+positive_roots_of_pairs m form pairs positive closed is =
+    subst (λ (vs : List Vector). ArePositiveRoots m vs)
+    (sym (roots_of_pairs positive ∙ ap (λ (qs : List RootPair). map (λ q. q.root) qs) (ap pairs_of is ∙ positives_are_pairs m pairs)))
+    (positive_roots_are m form (system_is_finite m form (pairs_of pairs) closed) (pairs_of pairs) (root_pairs_are m form (pairs_of pairs) closed))
+
 module _ (roots : Roots) where
   pub list_has_pairs : AreRootPairs (matrix_of roots) (list_of roots)
   list_has_pairs = root_pairs_are (matrix_of roots) roots.form (list_of roots) (not_there roots.closed)
@@ -38,10 +47,7 @@ module _ (roots : Roots) where
   positive_list_is = ap pairs_of roots.positives ∙ positives_are_pairs (matrix_of roots) roots.pairs
 
   pub has_positive_roots : ArePositiveRoots (matrix_of roots) (positive_roots_of roots)
-  has_positive_roots =
-      subst (λ (vs : List Vector). ArePositiveRoots (matrix_of roots) vs)
-      (sym (roots_of_pairs (positives roots) ∙ ap (λ (qs : List RootPair). map (λ q. q.root) qs) positive_list_is))
-      (positive_roots_are (matrix_of roots) roots.form has_finite_system (list_of roots) list_has_pairs)
+  has_positive_roots = positive_roots_of_pairs (matrix_of roots) roots.form roots.pairs (positives roots) (not_there roots.closed) roots.positives
 
   pub has_few_positives : length (positives roots) ≤ 36
   has_few_positives =

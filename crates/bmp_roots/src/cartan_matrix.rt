@@ -12,16 +12,16 @@ use thiserror::Error;
 #[derive(Clone, Copy, Debug, PartialEq, Eq, Error)]
 pub enum CartanFault {
     /// The rank is not 1 to 6, or there are not rank times rank entries.
-    #[error("cartan rank")]
+    #[error("the rank is not 1 to 6, or there are not rank times rank entries")]
     BadRank,
     /// The first diagonal entry that is not 2.
-    #[error("cartan diagonal {i}")]
+    #[error("the diagonal entry {i} is not 2")]
     BadDiagonal { i: u8 },
     /// The first entry off the diagonal, row by row, that is not from -32 to 0.
-    #[error("cartan off-diagonal {i} {j}")]
+    #[error("the entry at {i}, {j} is not from -32 to 0")]
     BadOffDiagonal { i: u8, j: u8 },
     /// The first place, row by row, that is 0 where the entry at the mirror place is not.
-    #[error("cartan unpaired-zero {i} {j}")]
+    #[error("the entry at {i}, {j} is 0, and the one at {j}, {i} is not")]
     UnpairedZero { i: u8, j: u8 },
 }
 
@@ -177,13 +177,14 @@ impl Cartan {
         Ok(Cartan { rank, entries })
     }
 
-    /// The entry `a_ij`: the value of the simple coroot i on the simple root j, both from 1.
+    /// The entry `a_ij`: the value of the simple coroot i on the simple root j, both from 1. From -32 to 2.
     pub fn entry(&self, i: u8, j: u8) -> i64
         requires row { (1 ≤ i) × (i ≤ self.now.rank) }
         requires column { (1 ≤ j) × (j ≤ self.now.rank) }
-        ensures { result ≡ entry self.now (i - 1) (j - 1) }
+        ensures value { result ≡ entry self.now (i - 1) (j - 1) }
+        ensures within { IsWithin 32 result }
     {
-        self.entries[(i as usize - 1) * self.rank as usize + (j as usize - 1)]
+        self.at(i as usize - 1, j as usize - 1)
     }
 
     /// The same matrix.

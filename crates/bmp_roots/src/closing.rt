@@ -24,7 +24,9 @@ fn result_of(list: &PairList, cartan: &Cartan, i: usize, k: usize) -> Pair
 }
 
 fn refused(kind: FiniteKind, pair: &Pair) -> NotFinite
-    ensures { result ≡ record { kind = kind; root = pair.now.root; coroot = pair.now.coroot } }
+    ensures kind { result.kind ≡ kind }
+    ensures root { result.root ≡ pair.now.root }
+    ensures coroot { result.coroot ≡ pair.now.coroot }
 {
     NotFinite {
         kind,

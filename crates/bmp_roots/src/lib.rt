@@ -17,8 +17,6 @@ mod reflection;
 pub mod refusal;
 pub mod root_pair;
 pub mod root_system;
-#[cfg(test)]
-mod tests;
 
 pub use cartan_matrix::{Cartan, CartanFault};
 pub use refusal::{FiniteKind, NotFinite};

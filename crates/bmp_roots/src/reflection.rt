@@ -1,5 +1,5 @@
 //! A simple reflection of a pair.
-ghost use Rattle.std.specs.Prelude.{◌≡◌, ◌+◌, ◌*◌, ◌<◌, ◌≤◌, ◌↔◌, ℕ, ℤ, pos, length, IsTrue, ◌+ℤ◌, ◌-ℤ◌, ◌*ℤ◌};
+ghost use Rattle.std.specs.Prelude.{◌≡◌, ◌+◌, ◌-◌, ◌*◌, ◌<◌, ◌≤◌, ◌↔◌, ℕ, ℤ, pos, length, IsTrue, ◌+ℤ◌, ◌-ℤ◌, ◌*ℤ◌};
 ghost use Rattle.bmp_math.specs.Integers.{IsWithin};
 ghost use Rattle.bmp_math.specs.IntegerSums.{integer_sum, integer_unit};
 ghost use Rattle.bmp_roots.specs.RootPairs.{CartanMatrix, Vector, HasCartanForm, entry, minus_times, pairing, IsSmall, mirrored, simple_pair};
@@ -65,6 +65,19 @@ fn lowered(v: &[i16; 6], k: usize, value: i32) -> [i16; 6]
     let mut moved = *v;
     moved[k] = difference(moved[k], value);
     moved
+}
+
+impl Cartan {
+    /// The value of the simple coroot i, from 1, on a root whose coordinates are from -32 to 32: the sum of the entries
+    /// of row i times the coordinates.
+    pub fn value(&self, i: u8, root: &[i16; 6]) -> i32
+        requires row { (1 ≤ i) × (i ≤ self.now.rank) }
+        requires small { (j : ℕ) → IsWithin 32 (coordinates root.now j) }
+        ensures value { result ≡ pairing self.now (integer_unit (i - 1)) (coordinates root.now) }
+        ensures within { IsWithin 6144 result }
+    {
+        row_value(self, i as usize - 1, root)
+    }
 }
 
 /// What the simple reflection k, from 0, makes of a pair.

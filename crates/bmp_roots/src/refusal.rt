@@ -1,6 +1,6 @@
 //! Why a Cartan matrix has no root system within the limits.
+ghost use Rattle.std.specs.Prelude.{◌≡◌, length};
 
-use std::fmt;
 use thiserror::Error;
 
 /// The limit that a pair breaks.
@@ -14,22 +14,13 @@ pub enum FiniteKind {
     Sign,
 }
 
-impl fmt::Display for FiniteKind {
-    fn fmt<W: fmt::Write>(&self, f: &mut fmt::Formatter<W>) -> fmt::Result {
-        f.write_str(match self {
-            FiniteKind::Pairs => "pairs",
-            FiniteKind::Coordinate => "coordinate",
-            FiniteKind::Sign => "sign",
-        })
-    }
-}
-
 /// The first pair in the order of the closure that breaks a limit, and the first limit that it breaks: a coordinate, the
-/// sign, or the number of pairs. Places past the rank are 0.
+/// sign, or the number of pairs. Root and coroot have six coordinates; those past the rank are 0.
 #[derive(Clone, Copy, Debug, PartialEq, Eq, Error)]
-#[error("finite {kind}")]
+#[error("a root pair breaks a limit, so the root system is not finite")]
 pub struct NotFinite {
     pub kind: FiniteKind,
     pub root: [i16; 6],
     pub coroot: [i16; 6],
+    pub ghost six: { (length root ≡ 6) × (length coroot ≡ 6) },
 }

@@ -51,9 +51,10 @@ fn positive_list(pairs: &PairList, rank: usize) -> PairList
 
 impl Roots {
     ghost use Rattle.std.specs.Prelude.{IfOk, IfErr, OnOk, OnErr, slice_index_or};
-    ghost use Rattle.bmp_roots.specs.RootPairs.{IsRootPair, IsPositive, IsZeroPast, HasFiniteSystem};
+    ghost use Rattle.bmp_roots.specs.RootPairs.{IsRootPair, IsPositive, IsZeroPast, IsSmall, AreRootPairs, HasFiniteSystem};
+    ghost use Rattle.bmp_roots.specs.PositiveRoots.{ArePositiveRoots};
     ghost use Rattle.bmp_roots.specs.Pairs.{root_pair, IsRefused};
-    ghost use Rattle.bmp_roots.specs.RootSystems.{matrix_of, list_of, positives};
+    ghost use Rattle.bmp_roots.specs.RootSystems.{matrix_of, list_of, positives, positive_roots_of};
     ghost use Rattle.bmp_roots.specs.declared.root_pair.Pair.{Pair};
 
     /// The root pairs of the matrix: the simple pairs in order, and then, pair by pair and reflection by reflection, each result
@@ -62,6 +63,8 @@ impl Roots {
     pub fn close(cartan: &Cartan) -> Result<Roots, NotFinite>
         ensures matrix { IfOk result (λ roots. matrix_of roots ≡ cartan.now) }
         ensures list { IfOk result (λ roots. IsClosed cartan.now (list_of roots)) }
+        ensures pairs { IfOk result (λ roots. AreRootPairs cartan.now (list_of roots)) }
+        ensures positive { IfOk result (λ roots. ArePositiveRoots cartan.now (positive_roots_of roots)) }
         ensures finite { OnOk result (HasFiniteSystem cartan.now) }
         ensures refused { IfErr result (λ e. IsRefused cartan.now e.kind (root_pair e.root e.coroot)) }
         ensures past_rank { IfErr result (λ e. IsZeroPast cartan.now.rank (root_pair e.root e.coroot)) }
@@ -87,18 +90,23 @@ impl Roots {
         }
     }
 
-    /// The rank of the matrix, 1 to 6.
+    /// The rank of the matrix, 1 to 6. The positive pairs that are kept are those of the matrix, each once.
     pub fn rank(&self) -> u8
         ensures value { result ≡ (matrix_of self.now).rank }
         ensures at_least_one { 1 ≤ result }
         ensures at_most_six { result ≤ 6 }
+        ensures form { HasCartanForm (matrix_of self.now) }
+        ensures finite { HasFiniteSystem (matrix_of self.now) }
+        ensures positive { ArePositiveRoots (matrix_of self.now) (positive_roots_of self.now) }
     {
         self.cartan.rank() as u8
     }
 
     /// The matrix.
     pub fn cartan(&self) -> &Cartan
-        ensures { result.now ≡ matrix_of self.now }
+        ensures matrix { result.now ≡ matrix_of self.now }
+        ensures form { HasCartanForm (matrix_of self.now) }
+        ensures finite { HasFiniteSystem (matrix_of self.now) }
     {
         &self.cartan
     }
@@ -111,7 +119,7 @@ impl Roots {
         self.positive.len() as u32
     }
 
-    /// The i-th positive root, from 0 in the order of the closure, and its coroot.
+    /// The i-th positive root, from 0 in the order of the closure, and its coroot. Coordinates are from -32 to 32.
     pub fn pair(&self, i: u32) -> ([i16; 6], [i16; 6])
         requires { i < length (positives self.now) }
         ensures root { (d : Pair) → result.0 ≡ (slice_index_or (positives self.now) i d).root }
@@ -119,6 +127,7 @@ impl Roots {
         ensures is_pair { IsRootPair (matrix_of self.now) (root_pair result.0 result.1) }
         ensures positive { IsPositive (matrix_of self.now) (coordinates result.0) }
         ensures past_rank { IsZeroPast (matrix_of self.now).rank (root_pair result.0 result.1) }
+        ensures small { IsSmall (root_pair result.0 result.1) }
     {
         let pair = self.positive.at(i as usize);
         let root = pair.root;

@@ -13,7 +13,7 @@
 --   ReducedAtMost36           a reduced word has at most 36 letters
 --   ReflectionIsElement       the reflection of a root pair is the product of a word of odd length
 --   ReflectionKnowsRoot       two positive root pairs with one reflection are the same
---   ReflectionChangesLength   a reflection on the left changes the parity of the length
+--   ReflectionChangesLength   a reflection on the left changes the length
 use Rattle.std.specs.Prelude.{◌≡◌, ◌≢◌, ◌↔◌, IsTrue, ℕ, ◌+◌, ◌%◌, ◌<◌, ◌≤◌, ◌⊎◌, List, [], ◌∷◌, ◌++◌, length, take, reverse, Bool}
 use Rattle.bmp_math.specs.IntegerSums.{integer_unit}
 use Rattle.bmp_roots.specs.RootPairs.{CartanMatrix, Vector, RootPair, across, IsRootPair, IsPositive}

@@ -179,6 +179,3 @@ impl Elem {
         Ok(word)
     }
 }
-
-#[cfg(test)]
-mod tests;

@@ -1,7 +1,12 @@
 //! The laws of words and length, each the contract of a function without a body.
 ghost use Rattle.bmp_weyl.specs.Statements.{LengthChangesByOne, LengthAtMostLetters, LengthZeroIsIdentity, DescentIsNegativeColumn, NoDescentIsIdentity, LengthOfInverse, Exchange, Deletion, ReducedSubsequence, SubsequenceIsShorter, PrefixIsReduced, ReducedAtMost36, ReflectionIsElement, ReflectionKnowsRoot, ReflectionChangesLength};
-ghost use Rattle.bmp_weyl.specs.ElementStatements.{ElementsOfEqualProducts, LengthOfElement};
+ghost use Rattle.bmp_weyl.specs.ElementStatements.{RootsAreSystem, ElementsOfEqualProducts, LengthOfElement};
 ghost use Rattle.bmp_weyl.specs.LengthStatements.{WordHasOneLength, ElementHasOneLength};
+
+/// Each law of a finite root system holds of a `Roots`, with its positive roots by their numbers.
+pub fn roots_are_system()
+    ensures { RootsAreSystem }
+{}
 
 /// A simple reflection on the right makes a product one longer or one shorter.
 pub fn length_changes_by_one()

@@ -10,7 +10,7 @@ use thiserror::Error;
 
 /// The first place of a word, from 0, whose letter is not 1 to the rank.
 #[derive(Clone, Copy, Debug, PartialEq, Eq, Error)]
-#[error("letter {place}")]
+#[error("the letter at place {place} is not 1 to the rank")]
 pub struct BadLetter {
     pub place: u32,
 }

@@ -15,7 +15,7 @@ loop-i-init c = (sym (integer_sum-zero _), (omega (arith, ints), omega (arith, i
 
 pub loop-i-preserved : goal.loop-i-preserved
 loop-i-preserved c =
-    let value : c.entry.result ≡ entry c.args.cartan.now c.loop-i.i c.args.j = c.entry.ensures ∙ ap₂ (λ a b. entry c.args.cartan.now a b) (omega arith) (omega arith) in
+    let value : c.entry.result ≡ entry c.args.cartan.now c.loop-i.i c.args.j = c.entry.ensures.value ∙ ap₂ (λ a b. entry c.args.cartan.now a b) (omega arith) (omega arith) in
     let within : IsWithin 32 c.entry.result =
     subst (λ z. IsWithin 32 z) (sym value) (entry_within c.args.cartan.now c.requires.form c.loop-i.i c.args.j (omega (arith, c.loop-i.invariant.2)) c.requires.column) in
     let entry_fits : SFits w64 c.entry.result = omega (arith, ints) in

@@ -1,5 +1,5 @@
 use Rattle.std.proofs.Common.{arith}
-use Rattle.bmp_interval.proofs.FactLemmas.{interval_is, has_a_vertex}
+use Rattle.bmp_interval.proofs.FactLemmas.{interval_is, interval_of_is, has_a_vertex}
 use Rattle.bmp_interval.proofs.interval.Interval.len.Goals as goal
 
 pub returns-clause-at_least_one : goal.returns-clause-at_least_one
@@ -9,4 +9,4 @@ pub returns-clause-at_most : goal.returns-clause-at_most
 returns-clause-at_most c = omega (arith, (interval_is c.args.self.now).few, c.len.ensures.len)
 
 pub returns-clause-interval : goal.returns-clause-interval
-returns-clause-interval c = interval_is c.args.self.now
+returns-clause-interval c = interval_of_is c.args.self.now

@@ -31,6 +31,9 @@ pub returns-clause-interval : goal.returns-clause-interval
 returns-clause-interval c =
     let list : List Elem = elements_of c.in_ok-sorted.sorted.items in
     let keys : c.in_ok-elements.elements.keys ≡ list = c.in_ok-elements.ensures ∙ ap (λ (vs : List Vertex). elements_of vs) c.as_slice-vertices.ensures.value in
-    interval_moved c.args.roots.now c.args.roots.now c.args.word.now c.args.word.now list c.in_ok-elements.elements.keys refl refl keys
-    (interval_made c.args.roots.now c.args.word.now c.args.found.now.keys list (lengths_of c.in_ok-sorted.sorted.items) c.requires.letters c.requires.reduced c.requires.vertices c.requires.few
-    c.in_ok-sorted.ensures)
+    record {
+      letters = c.requires.letters;
+      interval = interval_moved c.args.roots.now c.args.roots.now c.args.word.now c.args.word.now list c.in_ok-elements.elements.keys refl refl keys
+          (interval_made c.args.roots.now c.args.word.now c.args.found.now.keys list (lengths_of c.in_ok-sorted.sorted.items) c.requires.letters c.requires.reduced c.requires.vertices c.requires.few
+          c.in_ok-sorted.ensures);
+    }

@@ -1,4 +1,4 @@
-use Rattle.std.proofs.Common.{sym, ap, ap₂, ◌∙◌, subst, List}
+use Rattle.std.proofs.Common.{sym, ap₂, ◌∙◌, subst, List}
 use Rattle.bmp_roots.specs.RootPairs.{CartanMatrix, HasCartanForm}
 use Rattle.bmp_roots.specs.Closing.{IsClosed}
 use Rattle.bmp_roots.specs.Pairs.{pairs_of, positives_of}

@@ -1,6 +1,0 @@
-use Rattle.bmp_bruhat.specs.Building.{HasReflections}
-use Rattle.bmp_bruhat.proofs.reflection.Reflection.all.Given as goal
-
--- the reflections so far
-abbrev pub invariant-loop-i : goal.invariant-loop-i
-invariant-loop-i l = HasReflections l.roots l.prime l.i l.reflections.items
