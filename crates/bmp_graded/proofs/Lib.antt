@@ -15,3 +15,4 @@ pub mod ComponentLemmas
 pub mod ReducedActs
 pub mod TupleLemmas
 pub mod NormalLaws
+pub mod BlockActs

@@ -8,16 +8,6 @@ use Rattle.bmp_graded.specs.Maps.{blockwise}
 use Rattle.bmp_graded.proofs.GradedLemmas.{linear_zero, nothing_is_module, moved_is_module, copies_is_module}
 use Rattle.bmp_graded.specs.Graded.{IsModuleMap}
 
-pub map_after : (p r : ℕ) (A B C : Graded) (f g : ℕ → (ℕ → ℕ) → ℕ → ℕ) → IsModuleMap p r A B f → IsModuleMap p r B C g → IsModuleMap p r A C (λ d u. g d (f d u))
-map_after p r A B C f g F G = record {
-  linear = λ d. record {
-    respects = λ u v h. (G.linear d).respects (f d u) (f d v) ((F.linear d).respects u v h);
-    sums = λ u v j l. (G.linear d).respects (f d (λ i. u i + v i)) (λ i. f d u i + f d v i) ((F.linear d).sums u v) j l ∙ (G.linear d).sums (f d u) (f d v) j l;
-    multiples = λ c v j l. (G.linear d).respects (f d (λ i. c * v i)) (λ i. c * f d v i) ((F.linear d).multiples c v) j l ∙ (G.linear d).multiples c (f d v) j l;
-  };
-  acts = λ m k d t v is e j l. (G.linear t).respects (f t (A.act m d t v)) (B.act m d t (f d v)) (F.acts m k d t v is e) j l ∙ G.acts m k d t (f d v) is e j l;
-}
-
 pub nothing_map : (p r : ℕ) (N : Graded) → IsModule p r N → IsModuleMap p r nothing N (λ d u j. 0)
 unfolding nothing
 nothing_map p r N laws = record {

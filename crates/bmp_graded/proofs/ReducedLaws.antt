@@ -15,7 +15,8 @@ use Rattle.bmp_graded.specs.Modules.{polynomials}
 use Rattle.bmp_graded.specs.Graded.{IsModuleMap}
 use Rattle.bmp_graded.proofs.GradedLemmas.{shift-add, shift-mul}
 use Rattle.bmp_graded.specs.Quotients.{insert, remove, pure_form, reduced}
-use Rattle.bmp_graded.proofs.QuotientLemmas.{congruent_shift, insert_at, insert_monomial, remove_monomial, remove_insert, insert_remove}
+use Rattle.bmp_poly.proofs.ShiftedMultiples.{congruent_shift}
+use Rattle.bmp_graded.proofs.QuotientLemmas.{insert_at, insert_monomial, remove_monomial, remove_insert, insert_remove}
 
 pub shift_joined : (w r d k h t u : ℕ) (m n : List ℕ) (a : Form) (e : List ℕ) → IsMonomial w r k m → IsMonomial w r h n → IsMonomial w r u e → shift n (shift m a) e ≡ shift (joined m n) a e
 shift_joined w r d k h t u m n a e is_m is_n is_e =

@@ -53,20 +53,6 @@ pub record DividedBelow (e m rest : List ℕ) (k : ℕ) : Type 0 where
   pub done : (j : ℕ) → j < k → get_or rest j 0 ≡ get_or e j 0 - get_or m j 0
   pub left : (j : ℕ) → k ≤ j → get_or rest j 0 ≡ get_or e j 0
 
-pub divided_more : (e m rest : List ℕ) (k : ℕ) → k < 6 → get_or m k 0 ≤ get_or rest k 0 → DividedBelow e m rest k → DividedBelow e m (set rest k (get_or rest k 0 - get_or m k 0)) (k + 1)
-divided_more e m rest k inside fits h =
-    let sized : length rest ≡ 6 = h.sized in
-    let here : get_or rest k 0 ≡ get_or e k 0 = h.left k (omega arith) in
-    record {
-      sized = length-set rest k (get_or rest k 0 - get_or m k 0) ∙ h.sized;
-      held = λ j l. elim (cases_eq j k) [ inl same ↦ rw same (omega arith) | inr other ↦ h.held j (omega arith) ];
-      done = λ j l. elim (cases_eq j k) [
-        | inl same ↦ rw same (get_or-set_same rest k (get_or rest k 0 - get_or m k 0) 0 (omega arith) ∙ ap (λ z. z - get_or m k 0) here)
-        | inr other ↦ get_or-set_other rest k j (get_or rest k 0 - get_or m k 0) 0 other ∙ h.done j (omega arith)
-      ];
-      left = λ j l. get_or-set_other rest k j (get_or rest k 0 - get_or m k 0) 0 (omega arith) ∙ h.left j (omega arith);
-    }
-
 pub divided_fails : (e m rest : List ℕ) (k : ℕ) → length e ≡ 6 → length m ≡ 6 → k < 6 → get_or rest k 0 < get_or m k 0 → DividedBelow e m rest k → contains e m ≡ false
 divided_fails e m rest k long_e long_m inside short h = contains_fails e m k (long_e ∙ sym long_m) (omega arith) (let here = h.left k (omega arith) in omega arith)
 

@@ -25,10 +25,6 @@ image_read coordinate [] h e inside e_is = absurd (let none : h < 0 = inside in 
 image_read coordinate (x ∷ es) zero e inside e_is = ap coordinate (sym e_is)
 image_read coordinate (x ∷ es) (suc h) e inside e_is = let rest : suc h < suc (length es) = inside in image_read coordinate es h e (omega arith) e_is
 
--- nothing is added
-pub added_nothing : (p x c y : ℕ) → c ≡ 0 → x < p → x ≡ (x + c * y) % p
-added_nothing p x c y none small = let same : x + c * y ≡ x = rw none (omega arith) in sym (mod-eq_of_lt small) ∙ ap (λ z. z % p) (sym same)
-
 -- c times what is kept modulo p, added to x
 pub added_term : (p x c y t r : ℕ) (new : ℕ) → t ≡ y % p → r ≡ (c * t) % p → new ≡ (x + r) % p → new ≡ (x + c * y) % p
 added_term p x c y t r new t_is r_is new_is =

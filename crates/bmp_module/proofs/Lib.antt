@@ -5,6 +5,8 @@ pub mod Multiplying
 pub mod Rotating
 pub mod Narrowing
 pub mod NormalBlocks
+pub mod NormalColumns
+pub mod TabledBlocks
 pub mod Walking
 pub mod Acting
 pub mod Projecting
@@ -14,3 +16,4 @@ pub mod TupledMultiples
 pub mod TupledPlaces
 pub mod TupledSums
 pub mod Tupling
+pub mod ColumnLemmas

@@ -1,7 +1,6 @@
 -- What is seen of a free module in memory.
 --   rank_of s                the number of variables
 --   degrees_of s             the degrees of the generators, in their order
---   module_of s              the free module
 --   IsGenerator r gs g v     the element with coordinates v is the generator g of the free module with generators of
 --                            degrees gs: its polynomial is 1 at g and 0 at the others
 use Rattle.std.specs.Prelude.{◌≡◌, ℕ, ◌-◌, ◌<◌, ◌≤◌, ◌==◌, if◌then◌else◌, List, length, slice_index}
@@ -16,9 +15,6 @@ rank_of s = s.rank
 
 abbrev pub degrees_of : Free → List ℕ
 degrees_of s = s.degrees.items
-
-abbrev pub module_of : Free → Graded
-module_of s = free s.rank s.degrees.items
 
 abbrev pub IsGenerator : ℕ → List ℕ → ℕ → (ℕ → ℕ) → Type 0
 IsGenerator r gs g v = (h : ℕ) (m : List ℕ) → h < length gs → slice_index gs h ≤ slice_index gs g

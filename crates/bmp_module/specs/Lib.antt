@@ -5,3 +5,6 @@ pub mod Components
 pub mod QuotientModules
 pub mod Projections
 pub mod Images
+pub mod Columns
+pub mod Tables
+pub mod NormalTables

@@ -3,6 +3,7 @@ ghost use Rattle.std.specs.Prelude.{◌≡◌, ◌↔◌, ℕ, ◌<◌, ◌≤�
 ghost use Rattle.bmp_poly.specs.Coefficients.{coefficient};
 
 use bmp_field::Field;
+use bmp_poly::sums;
 use std::alloc::{AllocError, Global};
 
 /// An element of a degree, by its coordinates in their order.
@@ -45,9 +46,7 @@ impl<F: Field> Coordinates<F> {
             (coefficient (F.num f.now) self.old.numbers.items i
             + coefficient (F.num f.now) other.now.numbers.items i) % F.size f.now }
     {
-        for i in 0..self.numbers.len() {
-            self.numbers[i] = f.add(self.numbers[i], other.numbers[i]);
-        }
+        sums::add_coefficients(f, &mut self.numbers, &other.numbers);
     }
 
     /// Multiplies the coordinates by `c`.
@@ -61,9 +60,7 @@ impl<F: Field> Coordinates<F> {
             coefficient (F.num f.now) self.new.numbers.items i ≡
             (F.num f.now c * coefficient (F.num f.now) self.old.numbers.items i) % F.size f.now }
     {
-        for i in 0..self.numbers.len() {
-            self.numbers[i] = f.mul(c, self.numbers[i]);
-        }
+        sums::scale_coefficients(f, &mut self.numbers, c);
     }
 
     /// The coordinate at `i`.

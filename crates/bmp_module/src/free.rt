@@ -26,6 +26,7 @@ pub struct Free {
 }
 
 impl Free {
+    ghost use Rattle.bmp_field.specs.Runs.{AreBelow};
     ghost use Rattle.bmp_module.specs.FreeModules.{rank_of, degrees_of, IsGenerator};
 
     /// The free module in `rank` variables with a generator of each of the degrees, in their order.
@@ -99,6 +100,33 @@ impl Free {
         let mut generator = <Free as GradedModule<F>>::zero(self, alloc, f, degree)?;
         generator.numbers[start] = f.one();
         Ok(generator)
+    }
+
+    /// The element of degree `d` with these numbers as its coordinates.
+    pub fn element<F: Field>(
+        &self,
+        alloc: Global,
+        f: &F,
+        d: u32,
+        numbers: &[u8],
+    ) -> Result<Coordinates<F>, AllocError>
+        requires degree { d ≤ 6 }
+        requires sized { length numbers.now ≡ (free (rank_of self.now) (degrees_of self.now)).dim d }
+        requires below { AreBelow (F.size f.now) numbers.now }
+        ensures degree { IfOk result (λ e. e.degree ≡ d) }
+        ensures element { IfOk result (λ e. IsElement (F.is_value f.now) (free (rank_of self.now) (degrees_of self.now))
+            e.degree e.numbers.items) }
+        ensures numbers { IfOk result (λ e. (i : ℕ) → i < length numbers.now →
+            coefficient (F.num f.now) e.numbers.items i ≡ slice_index numbers.now i) }
+    {
+        let mut values = Vec::with_capacity(alloc, numbers.len())?;
+        for number in numbers {
+            values.push(f.from_num(u32::from(*number)))?;
+        }
+        Ok(Coordinates {
+            degree: d,
+            numbers: values,
+        })
     }
 }
 

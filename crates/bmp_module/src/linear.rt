@@ -19,10 +19,11 @@ use std::alloc::{AllocError, Global};
 /// The map from a free module that sends its generators to the images, in their order.
 ///
 /// An element is sent to the sum of its polynomials times the images.
+#[derive(Drop)]
 pub struct Linear<'a, F: Field, N: GradedModule<F>> {
-    from: &'a Free,
-    into: &'a N,
-    images: &'a [N::Elem],
+    pub(crate) from: &'a Free,
+    pub(crate) into: &'a N,
+    pub(crate) images: &'a [N::Elem],
 }
 
 impl<'a, F: Field, N: GradedModule<F>> Linear<'a, F, N> {

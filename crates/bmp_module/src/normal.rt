@@ -108,7 +108,7 @@ pub fn push_normal<F: Field>(
 }
 
 /// Appends `n` zeros.
-fn push_zeros<F: Field>(f: &F, n: u32, numbers: &mut Vec<F::E>) -> Result<(), AllocError>
+pub(crate) fn push_zeros<F: Field>(f: &F, n: u32, numbers: &mut Vec<F::E>) -> Result<(), AllocError>
     requires { All (F.is_value f.now) numbers.old.items }
     ensures { OnOk result (IsAppended (F.is_value f.now) (F.num f.now) numbers.old.items numbers.new.items n (λ i. 0)) }
 {

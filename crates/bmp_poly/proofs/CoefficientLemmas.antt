@@ -54,9 +54,6 @@ pub record WrittenBelow {E : Type 0} (is_value : E → Type 0) (num : E → ℕ)
   pub done : (j : ℕ) → j < n → coefficient num now j ≡ g j
   pub left : (j : ℕ) → n ≤ j → coefficient num now j ≡ coefficient num old j
 
-pub written_none : {E : Type 0} (is_value : E → Type 0) (num : E → ℕ) (g : ℕ → ℕ) (old : List E) → All is_value old → WrittenBelow is_value num g old old 0
-written_none is_value num g old values = record { sized = refl; values = values; done = λ j below. absurd (omega arith); left = λ j past. refl }
-
 pub written_more : {E : Type 0} (is_value : E → Type 0) (num : E → ℕ) (g : ℕ → ℕ) (old now : List E) (n : ℕ) (x : E) → n < length old → WrittenBelow is_value num g old now n → is_value x → num x ≡ g n → WrittenBelow is_value num g old (set now n x) (n + 1)
 written_more is_value num g old now n x l h v e =
     let sized : length now ≡ length old = h.sized in

@@ -45,19 +45,6 @@ pub record ShiftAdded {E : Type 0} (is_value : E → Type 0) (num : E → ℕ) (
   pub values : All is_value now
   pub sums : (h : List ℕ) → IsMonomial 6 r d h → SameMod p (form num r now h) (form num r old h + s * shift m (part r n b) h)
 
-pub shift_none : {E : Type 0} (is_value : E → Type 0) (num : E → ℕ) (p r d s : ℕ) (m : List ℕ) (b : Form) (old : List E) → All is_value old → ShiftAdded is_value num p r d s m b old old 0
-shift_none is_value num p r d s m b old values = record {
-  sized = refl;
-  values = values;
-  sums = λ h is.
-      let nothing : shift m (part r 0 b) h ≡ 0 = elim (cases_Bool (contains h m)) [
-        | inl held ↦ shift_holding m (part r 0 b) h held ∙ part_past r 0 b (less h m) (omega arith)
-        | inr lacking ↦ shift_lacking m (part r 0 b) h lacking
-      ] in
-      let alone : form num r old h ≡ form num r old h + s * 0 = omega arith in
-      ap (λ z. z % p) (alone ∙ ap (λ z. form num r old h + s * z) (sym nothing));
-}
-
 -- two monomials of the degrees k and e multiply to one of degree d
 pub record AreFactors (r k e d : ℕ) (m : List ℕ) : Type 0 where
   pub rank : r ≤ 6

@@ -7,7 +7,6 @@
 --   IsLabelOf p r cs x     x is the label with this prime, rank and coordinates
 --   IsFault p r cs e       why there is no such label: e names the first coordinate that does not fit,
 --                          or says that all of them fit and are 0
---   CongruentBy x d a b        x divides a less b, both of degree d
 --   DividesForm x d a          x divides a, of degree d
 --   IsNormalFormBy x d a b     b is the normal form of a: no monomial of b holds the leading variable,
 --                              and x divides a less b
@@ -41,10 +40,6 @@ pub record IsLabelOf (p r : ℕ) (coords : List ℕ) (x : Label) : Type 0 where
 abbrev pub IsFault : ℕ → ℕ → List ℕ → LabelFault → Type 0
 IsFault p r coords (Value place) = IsFirstMisfit p r coords place
 IsFault p r coords Zero = EachFits p r coords × IsZero coords
-
--- polynomials of degree d in the label's variables, modulo its prime
-abbrev pub CongruentBy : Label → ℕ → Form → Form → Type 0
-CongruentBy x d a b = Congruent (prime_of x) 6 (rank_of x) d (coordinate_of x) a b
 
 abbrev pub DividesForm : Label → ℕ → Form → Type 0
 DividesForm x d a = LabelDivides (prime_of x) 6 (rank_of x) d (coordinate_of x) a

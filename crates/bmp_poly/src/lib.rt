@@ -12,6 +12,3 @@ pub mod sums;
 pub use label::{Label, LabelFault};
 pub use monomials::Monomials;
 pub use poly::Poly;
-
-#[cfg(test)]
-mod tests;

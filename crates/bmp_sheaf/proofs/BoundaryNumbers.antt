@@ -1,20 +1,18 @@
 -- Coordinates of boundaries: edge after edge going up from a vertex, they decide what is the same boundary, and are linear.
-use Rattle.std.proofs.Common.{◌≡◌, ◌↔◌, ℕ, ◌+◌, ◌*◌, ◌%◌, ◌<◌, cond, eqb, sym, ap, ap₂, subst, ◌∙◌, inl, inr, arith, eq-eqb, ne_eqb}
+use Rattle.std.proofs.Common.{◌≡◌, ◌↔◌, ℕ, ◌+◌, ◌*◌, ◌%◌, ◌<◌, cond, eqb, sym, ap, subst, ◌∙◌, inl, inr, arith, eq-eqb, ne_eqb}
 use Rattle.std.proofs.lemmas.Bool.{cases_eq, cond-true, cond-false}
 use Rattle.bmp_math.specs.Sums.{sum_below}
 use Rattle.bmp_math.specs.Congruences.{SameMod}
 use Rattle.bmp_math.specs.Vectors.{SameVector}
 use Rattle.bmp_math.proofs.SumLemmas.{sum_below_same}
 use Rattle.bmp_math.proofs.BlockLemmas.{InBlock, block_of, joined_at, joined_each, within_blocks}
-use Rattle.bmp_graph.specs.Graph.{Graph, edge_count, lower, upper, label}
+use Rattle.bmp_graph.specs.Graph.{Graph, edge_count, lower, upper}
 use Rattle.bmp_sheaf.specs.Fields.{IsOverField}
 use Rattle.bmp_sheaf.specs.Elements.{SameElement, zero_element}
 use Rattle.bmp_sheaf.specs.Sheaves.{SheafData, Boundary, SameBoundary}
-use Rattle.bmp_sheaf.specs.Coordinates.{leading, edge_module_count, boundary_start, boundary_count, AreBoundaryCoordinates}
+use Rattle.bmp_sheaf.specs.Coordinates.{edge_module_count, boundary_start, boundary_count}
 use Rattle.bmp_sheaf.specs.Numbers.{on_edge, boundary_number}
-use Rattle.bmp_sheaf.proofs.EdgeLabels.{label_leads}
-use Rattle.bmp_sheaf.proofs.EdgeNumbers.{agreeing_coordinates}
-use Rattle.bmp_sheaf.proofs.OnEdge.{on_edge_below, on_edge_are_coordinates, on_edge_same, same_on_edge, on_edge_respects, on_edge-plus, on_edge-times, on_edge-zero, on_edge-combination}
+use Rattle.bmp_sheaf.proofs.OnEdge.{on_edge_below, on_edge_same, same_on_edge, on_edge_respects, on_edge-zero, on_edge-combination}
 
 -- k is where the coordinate `place` of an edge going up from x stands among those of x
 pub record IsBoundaryPlace (G : Graph) (F : SheafData) (x d k : ℕ) : Type 0 where
@@ -86,23 +84,6 @@ module _ (G : Graph) (F : SheafData) (x d : ℕ) where
         (λ e i is_edge starts inside.
         boundary_number_at b e i is_edge starts inside ∙ on_edge_respects G over F d e is_edge (b e) (c e) (same e is_edge starts) i inside ∙ sym (boundary_number_at c e i is_edge starts inside))
 
-    -- they are linear
-    pub boundary_number-plus : (b c : Boundary) → SameVector G.prime (boundary_count G F x d) (numbers (λ e g m. b e g m + c e g m)) (λ k. numbers b k + numbers c k)
-    boundary_number-plus b c =
-        each_boundary_place (λ k. SameMod G.prime (numbers (λ e g m. b e g m + c e g m) k) (numbers b k + numbers c k))
-        (λ e i is_edge starts inside.
-        ap (λ z. z % G.prime) (boundary_number_at (λ e g m. b e g m + c e g m) e i is_edge starts inside)
-        ∙ on_edge-plus G over F d e is_edge (b e) (c e) i inside
-        ∙ ap (λ z. z % G.prime) (sym (ap₂ (λ y z. y + z) (boundary_number_at b e i is_edge starts inside) (boundary_number_at c e i is_edge starts inside))))
-
-    pub boundary_number-times : (y : ℕ) (b : Boundary) → SameVector G.prime (boundary_count G F x d) (numbers (λ e g m. y * b e g m)) (λ k. y * numbers b k)
-    boundary_number-times y b =
-        each_boundary_place (λ k. SameMod G.prime (numbers (λ e g m. y * b e g m) k) (y * numbers b k))
-        (λ e i is_edge starts inside.
-        ap (λ z. z % G.prime) (boundary_number_at (λ e g m. y * b e g m) e i is_edge starts inside)
-        ∙ on_edge-times G over F d e is_edge y (b e) i inside
-        ∙ ap (λ z. (y * z) % G.prime) (sym (boundary_number_at b e i is_edge starts inside)))
-
     pub boundary_number-zero : (k : ℕ) → k < boundary_count G F x d → numbers (λ e. zero_element) k ≡ 0
     boundary_number-zero =
         each_boundary_place (λ k. numbers (λ e. zero_element) k ≡ 0)
@@ -115,9 +96,3 @@ module _ (G : Graph) (F : SheafData) (x d : ℕ) where
         ap (λ z. z % G.prime) (boundary_number_at (λ e g m. sum_below (λ j. c j * b j e g m) n) e i is_edge starts inside)
         ∙ on_edge-combination G over F d e is_edge c (λ j. b j e) n i inside
         ∙ ap (λ z. z % G.prime) (sym (sum_below_same (λ j. c j * numbers (b j) (boundary_start G F x d e + i)) (λ j. c j * on_edge G F d e (b j e) i) n (λ j below. ap (λ z. c j * z) (boundary_number_at (b j) e i is_edge starts inside)))))
-
-    pub are_boundary_coordinates : (b : Boundary) → AreBoundaryCoordinates G F x d b (numbers b)
-    are_boundary_coordinates b e is_edge starts =
-        let leads = label_leads G over e is_edge in
-        agreeing_coordinates G.prime G.rank (leading G e) d (label G e) (F.degrees (upper G e)) (b e) (on_edge G F d e (b e)) (λ i. numbers b (boundary_start G F x d e + i)) leads.here leads.rank
-        (on_edge_are_coordinates G over F d e is_edge (b e)) (λ i inside. boundary_number_at b e i is_edge starts inside)

@@ -3,7 +3,6 @@ use Rattle.std.proofs.Common.{◌≡◌, ℕ, ◌+◌, ◌-◌, ◌*◌, ◌%◌
 use Rattle.std.specs.Prelude.{slice_index}
 use Rattle.std.proofs.lemmas.Bool.{cases_eq, cases_lt}
 use Rattle.bmp_math.specs.Matrices.{Matrix, image}
-use Rattle.bmp_math.specs.Vectors.{unit}
 use Rattle.bmp_math.proofs.SumLemmas.{sum_below_rises}
 use Rattle.bmp_linear.specs.RowTables.{Work}
 use Rattle.bmp_graph.specs.Graph.{Graph, IsUpRange, edge_count, lower}
@@ -43,9 +42,6 @@ module _ (G : Graph) (over : IsOverField G) (F : SheafData) (d e : ℕ) (below :
   pub lift_by_rows : (p : ℕ) (u : ℕ → ℕ) (i : ℕ) → p ≡ G.prime → i < edge_module_count G F d e → image a u i % p ≡ lift_numbers G F d e u i
   lift_by_rows p u i prime inside =
       ap (λ z. image a u i % z) prime ∙ ap (λ z. z % G.prime) (image_same a (lower_matrix G F d e) same u i inside) ∙ lower_image G over F d e below u i inside
-
-  pub lift_of_unit : (i j : ℕ) → i < edge_module_count G F d e → j < (lower_matrix G F d e).cols → a.entry i j ≡ lift_numbers G F d e (unit j) i
-  lift_of_unit i j row column = same.entries i j row column
 
 module _ (G : Graph) (F : SheafData) (x d : ℕ) (u : ℕ → ℕ) (old : Work) where
   abbrev pub numbers_of : ℕ → ℕ

@@ -1,15 +1,13 @@
 -- The coordinates of an element by generators: each place is of one generator, and there of one monomial.
 use Rattle.std.proofs.Common.{◌≡◌, ℕ, ◌+◌, ◌-◌, ◌<◌, ◌≤◌, leb, List, length, sym, ap, subst, ◌∙◌, inl, inr, arith}
-use Rattle.std.specs.Prelude.{slice_index, remove}
+use Rattle.std.specs.Prelude.{slice_index}
 use Rattle.std.proofs.lemmas.Bool.{cases_lt, cond-true, cond-false, lt-leb, le-leb}
 use Rattle.bmp_math.proofs.BlockLemmas.{InBlock, block_of, block_once}
 use Rattle.bmp_poly.specs.Exponents.{IsMonomial, count, place, exponents}
 use Rattle.bmp_poly.proofs.PlaceLemmas.{exponents_stand, exponents-place, place_below, StandsAt}
-use Rattle.bmp_graded.specs.Quotients.{insert}
 use Rattle.bmp_sheaf.specs.Elements.{HasComponent}
-use Rattle.bmp_sheaf.specs.Coordinates.{component_count, stalk_start, stalk_count, stalk_place, edge_place}
+use Rattle.bmp_sheaf.specs.Coordinates.{component_count, stalk_start, stalk_count, stalk_place}
 use Rattle.bmp_sheaf.proofs.StalkPlaces.{component_is_count}
-use Rattle.bmp_sheaf.proofs.NormalNumbers.{IsPureAt, pure_at, pure_place_below, pure-again}
 
 -- what has a place among a generator's coefficients has a component there
 pub component_within : (r d e i : ℕ) → i < component_count r d e → (e + (d - e) ≡ d) × (i < count r (d - e))
@@ -90,40 +88,3 @@ module _ (r d : ℕ) (degrees : List ℕ) (wide : r ≤ 6) where
       let both = component_once r d degrees g h s t (place r m) (place r n) has_g has_h (place_below 6 r s m wide is_m) (place_below 6 r t n wide is_n) same in
       let sizes : s ≡ t = same_degree r d degrees g h s t has_g has_h both.0 in
       (both.0, sym (exponents-place 6 r s m wide is_m) ∙ ap (exponents 6 r s) both.1 ∙ ap (λ z. exponents 6 r z (place r n)) sizes ∙ exponents-place 6 r t n wide is_n)
-
--- the same on an edge: k is the place of a generator and a monomial without the l-th variable
-pub record IsEdgePlace (r l d : ℕ) (degrees : List ℕ) (k : ℕ) : Type 0 where
-  pub generator : ℕ
-  pub degree : ℕ
-  pub monomial : List ℕ
-  pub has : HasComponent degrees d generator degree
-  pub is_monomial : IsMonomial 6 r degree monomial
-  pub is_pure : slice_index monomial l ≡ 0
-  pub is : edge_place r l degrees d generator monomial ≡ k
-
-module _ (r l d : ℕ) (degrees : List ℕ) (below : l < r) (wide : r ≤ 6) where
-  pub edge_place_of : (k : ℕ) → k < stalk_count (r - 1) degrees d → IsEdgePlace r l d degrees k
-  edge_place_of k inside =
-      let at : InComponent (r - 1) d degrees k = component_of (r - 1) d degrees k inside in
-      let m = insert l (exponents 5 (r - 1) at.degree at.place) in
-      let pure : IsPureAt r l at.degree at.place (insert l (exponents 5 (r - 1) at.degree at.place)) = pure_at r l at.degree at.place below wide at.inside in
-      record {
-        generator = at.generator;
-        degree = at.degree;
-        monomial = m;
-        has = at.has;
-        is_monomial = pure.is_monomial;
-        is_pure = pure.is_pure;
-        is = ap (λ z. stalk_start (r - 1) degrees d at.generator + z) pure.place_is ∙ at.is;
-      }
-
-  pub edge_place_once : (g h s t : ℕ) (m n : List ℕ) → HasComponent degrees d g s → HasComponent degrees d h t → IsMonomial 6 r s m → IsMonomial 6 r t n → slice_index m l ≡ 0 → slice_index n l ≡ 0 → edge_place r l degrees d g m ≡ edge_place r l degrees d h n → (g ≡ h) × (m ≡ n)
-  edge_place_once g h s t m n has_g has_h is_m is_n pure_m pure_n same =
-      let both =
-      component_once (r - 1) d degrees g h s t (place (r - 1) (remove m l)) (place (r - 1) (remove n l)) has_g has_h
-      (pure_place_below l s m r below wide is_m pure_m) (pure_place_below l t n r below wide is_n pure_n) same in
-      let sizes : s ≡ t = same_degree (r - 1) d degrees g h s t has_g has_h both.0 in (
-        both.0,
-        sym (pure-again l s m r below wide is_m pure_m) ∙ ap (λ z. insert l (exponents 5 (r - 1) s z)) both.1
-            ∙ ap (λ z. insert l (exponents 5 (r - 1) z (place (r - 1) (remove n l)))) sizes ∙ pure-again l t n r below wide is_n pure_n,
-      )

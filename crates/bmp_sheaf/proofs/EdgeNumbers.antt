@@ -1,5 +1,5 @@
 -- Coordinates of elements in an edge module: they are edge coordinates, decide what is congruent by the label, and are linear.
-use Rattle.std.proofs.Common.{◌≡◌, ◌↔◌, ℕ, ◌+◌, ◌-◌, ◌*◌, ◌%◌, ◌<◌, ◌≤◌, List, length, refl, sym, ap, ap₂, ◌∙◌, arith}
+use Rattle.std.proofs.Common.{◌≡◌, ℕ, ◌+◌, ◌-◌, ◌*◌, ◌%◌, ◌<◌, ◌≤◌, List, length, refl, sym, ap, ap₂, ◌∙◌, arith}
 use Rattle.std.specs.Prelude.{slice_index, remove}
 use Rattle.bmp_math.specs.Sums.{sum_below}
 use Rattle.bmp_math.specs.Congruences.{SameMod}
@@ -12,18 +12,12 @@ use Rattle.bmp_poly.specs.Coordinates.{IsLeading}
 use Rattle.bmp_graded.specs.NormalForms.{HasInverses, normal_by}
 use Rattle.bmp_graded.proofs.NormalLaws.{normal_is}
 use Rattle.bmp_sheaf.specs.Elements.{Element, HasComponent, SameElement, CongruentElement, zero_element}
-use Rattle.bmp_sheaf.specs.Coordinates.{component_count, stalk_start, stalk_count, edge_place, AreEdgeCoordinates}
-use Rattle.bmp_sheaf.specs.Numbers.{normal_number, edge_number}
+use Rattle.bmp_sheaf.specs.Coordinates.{component_count, stalk_start, stalk_count, AreEdgeCoordinates}
+use Rattle.bmp_module.specs.Tables.{normal_number}
+use Rattle.bmp_sheaf.specs.Numbers.{edge_number}
 use Rattle.bmp_sheaf.proofs.ElementLaws.{same_congruent}
 use Rattle.bmp_sheaf.proofs.NormalNumbers.{normal_number_below, normal_number_at, normal_numbers_same, same_normal_numbers, normal_number-plus, normal_number-times, pure_place_below}
-use Rattle.bmp_sheaf.proofs.StalkPlaces.{edge_place_below}
 use Rattle.bmp_sheaf.proofs.Components.{each_component, inside_size}
-
--- numbers that agree with edge coordinates are these
-pub agreeing_coordinates : (p r l d : ℕ) (c : ℕ → ℕ) (degrees : List ℕ) (a : Element) (m n : ℕ → ℕ) → l < r → r ≤ 6 → AreEdgeCoordinates p r c l degrees d a m → ((i : ℕ) → i < stalk_count (r - 1) degrees d → n i ≡ m i) → AreEdgeCoordinates p r c l degrees d a n
-agreeing_coordinates p r l d c degrees a m n below wide are same g s has =
-    let at = are g s has in
-    (at.0, at.1, λ e is pure. same (edge_place r l degrees d g e) (edge_place_below r l d g s degrees e below wide has is pure) ∙ at.2 e is pure)
 
 module _ (p r l : ℕ) (coords : List ℕ) (two : 2 ≤ p) (inverses : HasInverses p) (leads : IsLeading p r l coords) (degrees : List ℕ) (d : ℕ) where
   abbrev pub numbers : Element → ℕ → ℕ
@@ -65,9 +59,6 @@ module _ (p r l : ℕ) (coords : List ℕ) (two : 2 ≤ p) (inverses : HasInvers
       sym (edge_number_at a g s i has inside)
       ∙ same (stalk_start (r - 1) degrees d g + i) (within_blocks (λ h. component_count (r - 1) d (slice_index degrees h)) (length degrees) g i has.0 (inside_size (r - 1) d degrees g s i has inside))
       ∙ edge_number_at b g s i has inside)
-
-  pub edge_numbers_decide : (a b : Element) → CongruentElement p r degrees (slice_index coords) d a b ↔ ((k : ℕ) → k < size → numbers a k ≡ numbers b k)
-  edge_numbers_decide a b = (edge_numbers_same a b, same_edge_numbers a b)
 
   -- they are those of the element
   pub edge_number_respects : (a b : Element) → SameElement p r degrees d a b → (k : ℕ) → k < size → numbers a k ≡ numbers b k

@@ -12,10 +12,10 @@ use Rattle.bmp_graph.specs.declared.edge.Edge.{Edge}
 use Rattle.bmp_graph.specs.Graph.{Graph, edge_count, label}
 use Rattle.bmp_graph.proofs.GraphLemmas.{edge_number}
 use Rattle.bmp_graded.proofs.CoordinateLemmas.{length_more}
-use Rattle.bmp_sheaf.specs.declared.normal_table.NormalTable.{NormalTable}
+use Rattle.bmp_module.specs.declared.normal_table.NormalTable.{NormalTable}
 use Rattle.bmp_sheaf.specs.Coordinates.{leading}
-use Rattle.bmp_sheaf.specs.NormalTables.{label_of, degrees_of, IsBy}
-use Rattle.bmp_sheaf.specs.LabelTables.{IsTableOf, HasTable, HasTables}
+use Rattle.bmp_module.specs.NormalTables.{label_of, degrees_of}
+use Rattle.bmp_sheaf.specs.LabelTables.{IsBy, IsTableOf, HasTable, HasTables, AreByDifferentLabels}
 
 -- the leading variable of an edge's label
 pub leading_is : (G : Graph) (e : ℕ) (d : Edge) → e < edge_count G → slice_get G.edges e ≡ Some d → leading_of d.label ≡ leading G e
@@ -39,10 +39,26 @@ extends_pushed tables u = record {
 pub record IsTabled (G : Graph) (D n : ℕ) (tables : List NormalTable) (numbers : List ℕ) : Type 0 where
   pub each : HasTables G D n tables numbers
   pub degrees : All (λ t. degrees_of t ≡ D + 1) tables
+  pub different : AreByDifferentLabels tables
+
+-- another table by a label that none of them is by
+different_more : (tables : List NormalTable) (u : NormalTable) → AreByDifferentLabels tables → ((k : ℕ) (t : NormalTable) → k < length tables → IsBy (get_or tables k t) (label_of u) → ⊥) → AreByDifferentLabels (tables ++ u ∷ [])
+different_more tables u h new i j t before inside =
+    let most : j < length tables + 1 = omega (arith, inside, length_more tables u) in
+    let kept : (k : ℕ) → k < length tables → get_or (tables ++ u ∷ []) k t ≡ get_or tables k t = λ k below. get_or_append_left tables (u ∷ []) t k below in
+    let first : i < length tables = omega arith in
+    elim (cases_eq j (length tables)) [
+      | inl last ↦ λ by.
+          let at : get_or (tables ++ u ∷ []) j t ≡ u = get_or_push tables u t j (sym last) in
+          new i t first (subst (λ z. IsBy (get_or tables i t) (label_of z)) at (subst (λ z. IsBy z (label_of (get_or (tables ++ u ∷ []) j t))) (kept i first) by))
+      | inr other ↦ λ by.
+          let second : j < length tables = omega arith in
+          h i j t before second (subst (λ z. IsBy (get_or tables i t) (label_of z)) (kept j second) (subst (λ z. IsBy z (label_of (get_or (tables ++ u ∷ []) j t))) (kept i first) by))
+    ]
 
 module _ (G : Graph) (D : ℕ) where
   pub tabled_none : IsTabled G D 0 [] []
-  tabled_none = record { each = record { sized = refl; each = λ e below. absurd (omega arith) }; degrees = λ k d below. absurd (let none : k < 0 = below in omega arith) }
+  tabled_none = record { each = record { sized = refl; each = λ e below. absurd (omega arith) }; degrees = λ k d below. absurd (let none : k < 0 = below in omega arith); different = λ i j t before below. absurd (let none : j < 0 = below in omega arith) }
 
   -- one edge more
   tables_more : (n k : ℕ) (old new : List NormalTable) (numbers : List ℕ) → HasTables G D n old numbers → Extends old new → HasTable G D new k n → HasTables G D (n + 1) new (numbers ++ k ∷ [])
@@ -72,11 +88,12 @@ module _ (G : Graph) (D : ℕ) where
     tabled_found below by = record {
       each = tables_more e k tables tables numbers h.each (extends_itself tables) (record { number = below; is = λ t. table_by (get_or tables k t) (by t below) (h.degrees k t below) });
       degrees = h.degrees;
+      different = h.different;
     }
 
     -- a table that was made
-    pub tabled_made : (u : NormalTable) → k ≡ length tables → label_of u ≡ x → degrees_of u ≡ D + 1 → IsTabled G D (e + 1) (tables ++ u ∷ []) (numbers ++ k ∷ [])
-    tabled_made u last is degrees =
+    pub tabled_made : (u : NormalTable) → k ≡ length tables → label_of u ≡ x → degrees_of u ≡ D + 1 → ((i : ℕ) (t : NormalTable) → i < k → IsBy (get_or tables i t) x → ⊥) → IsTabled G D (e + 1) (tables ++ u ∷ []) (numbers ++ k ∷ [])
+    tabled_made u last is degrees new =
         let by : IsBy u x = record { prime = ap prime_of is; rank = ap rank_of is; leading = ap leading_of is; coordinates = ap coordinate_of is } in
         let table : HasTable G D (tables ++ u ∷ []) k e = record {
           number = omega (arith, last, length_more tables u);
@@ -85,4 +102,5 @@ module _ (G : Graph) (D : ℕ) where
         record {
           each = tables_more e k tables (tables ++ u ∷ []) numbers h.each (extends_pushed tables u) table;
           degrees = All-push (λ t. degrees_of t ≡ D + 1) tables u h.degrees degrees;
+          different = different_more tables u h.different (λ i t below by. new i t (omega (arith, below, last)) (subst (IsBy (get_or tables i t)) is by));
         }

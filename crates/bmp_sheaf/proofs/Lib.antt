@@ -2,7 +2,6 @@ pub mod ProductLemmas
 pub mod ExtensionLemmas
 pub mod CoordinateLemmas
 pub mod StalkPlaces
-pub mod NormalColumns
 pub mod LabelTableLemmas
 pub mod ShiftLaws
 pub mod FactorLaws
@@ -32,7 +31,9 @@ pub mod BoundaryRowLemmas
 pub mod SizeLemmas
 pub mod Agreement
 pub mod MonomialLemmas
-pub mod LiftColumns
-pub mod TermLemmas
-pub mod ColumnLemmas
 pub mod RowLemmas
+pub mod ModuleLemmas
+pub mod EdgeMatrices
+pub mod Determined
+pub mod EdgeColumns
+pub mod EdgeImages

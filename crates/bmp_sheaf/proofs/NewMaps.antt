@@ -22,8 +22,8 @@ use Rattle.bmp_sheaf.specs.Sheaves.{SheafData}
 use Rattle.bmp_sheaf.specs.Coordinates.{stalk_count, element_of, leading}
 use Rattle.bmp_sheaf.specs.Numbers.{edge_number, unit_at, lower_matrix, upper_matrix}
 use Rattle.bmp_sheaf.specs.Written.{first_edge, up_count, IsUpPlace, lift_place}
-use Rattle.bmp_sheaf.specs.NormalTables.{label_of}
-use Rattle.bmp_sheaf.specs.declared.normal_table.NormalTable.{NormalTable}
+use Rattle.bmp_module.specs.NormalTables.{label_of}
+use Rattle.bmp_module.specs.declared.normal_table.NormalTable.{NormalTable}
 use Rattle.bmp_sheaf.specs.LabelTables.{IsTableOf}
 use Rattle.bmp_sheaf.specs.EdgeMaps.{LiftsFit, lift_by, lower_map, upper_map, SameMatrix}
 use Rattle.bmp_sheaf.specs.States.{Stalk, SheafState, stalk_of, next_vertex, with_stalk, sheaf_of}

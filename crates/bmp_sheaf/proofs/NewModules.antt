@@ -1,32 +1,31 @@
 -- The modules of the edges going up from a vertex, one after another.
-use Rattle.std.proofs.Common.{◌≡◌, ℕ, ◌+◌, ◌-◌, ◌<◌, ◌≤◌, List, [], ◌∷◌, ◌++◌, Some, length, get_or, sym, ap, subst, ◌∙◌, inl, inr, arith}
-use Rattle.std.specs.Prelude.{slice_get}
+use Rattle.std.proofs.Common.{◌≡◌, ℕ, ◌+◌, ◌-◌, ◌<◌, ◌≤◌, List, [], ◌∷◌, ◌++◌, length, get_or, sym, ap, subst, ◌∙◌, inl, inr, arith}
 use Rattle.std.proofs.lemmas.Bool.{cases_eq}
 use Rattle.std.proofs.lemmas.List.{get_or_push, get_or_append_left}
 use Rattle.bmp_poly.specs.Labels.{prime_of, rank_of, leading_of, coordinate_of}
 use Rattle.bmp_module.specs.declared.quotient.Quotient.{Quotient}
 use Rattle.bmp_module.specs.FreeModules.{rank_of as free_rank_of, degrees_of}
 use Rattle.bmp_module.specs.QuotientModules.{free_of, label_of}
-use Rattle.bmp_graph.specs.declared.edge.Edge.{Edge}
-use Rattle.bmp_graph.specs.Graph.{IsUpRange, edge_count, upper, label}
+use Rattle.bmp_module.specs.declared.normal_table.NormalTable.{NormalTable}
+use Rattle.bmp_module.specs.NormalTables.{label_of as table_label_of}
+use Rattle.bmp_graph.specs.Graph.{IsUpRange, upper}
 use Rattle.bmp_graph.proofs.TableLemmas.{IsUpRange-has}
 use Rattle.bmp_graded.proofs.CoordinateLemmas.{length_more}
 use Rattle.bmp_sheaf.specs.States.{SheafState, stalk_of}
 use Rattle.bmp_sheaf.specs.StalkTables.{IsEdgeModule, AreModulesUp}
 use Rattle.bmp_sheaf.proofs.UpEdges.{first_edge_is, up_count_is}
-use Rattle.bmp_sheaf.proofs.LabelTableLemmas.{leading_is}
+use Rattle.bmp_sheaf.specs.LabelTables.{IsTableOf}
 
 module _ {F : Type 0} (s : SheafState F) where
-  -- a module over the stalk at the upper end, by the edge's label
-  pub module_is : (e : ℕ) (d : Edge) (m : Quotient) → e < edge_count s.graph → slice_get s.graph.edges e ≡ Some d → coordinate_of d.label ≡ label s.graph e → rank_of d.label ≡ s.graph.rank → prime_of d.label ≡ s.graph.prime
-      → free_rank_of (free_of m) ≡ s.graph.rank → degrees_of (free_of m) ≡ (stalk_of s (upper s.graph e)).degrees → label_of m ≡ d.label → IsEdgeModule s e m
-  module_is e d m below read coordinates rank prime free_rank degrees by = record {
+  -- a module over the stalk at the upper end, by the label of the edge's table
+  pub module_is : (D e : ℕ) (t : NormalTable) (m : Quotient) → IsTableOf s.graph D e t → free_rank_of (free_of m) ≡ s.graph.rank → degrees_of (free_of m) ≡ (stalk_of s (upper s.graph e)).degrees → label_of m ≡ table_label_of t → IsEdgeModule s e m
+  module_is D e t m table free_rank degrees by = record {
     rank = free_rank;
     degrees = degrees;
-    label_rank = ap rank_of by ∙ rank;
-    label_prime = ap prime_of by ∙ prime;
-    label_leading = ap leading_of by ∙ leading_is s.graph e d below read;
-    label_coordinates = ap coordinate_of by ∙ coordinates;
+    label_rank = ap rank_of by ∙ table.rank;
+    label_prime = ap prime_of by ∙ table.prime;
+    label_leading = ap leading_of by ∙ table.leading;
+    label_coordinates = ap coordinate_of by ∙ table.coordinates;
   }
 
   -- the modules of the edges from `from` on, before e

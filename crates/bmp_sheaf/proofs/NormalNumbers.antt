@@ -15,7 +15,7 @@ use Rattle.bmp_graded.specs.Quotients.{insert}
 use Rattle.bmp_graded.proofs.PureLemmas.{remove_parts}
 use Rattle.bmp_graded.proofs.QuotientLemmas.{insert_at, insert_monomial, remove_insert, insert_remove}
 use Rattle.bmp_graded.proofs.NormalLaws.{normal_is, normal_congruent, congruent_normal, normal-plus, normal-times}
-use Rattle.bmp_sheaf.specs.Numbers.{normal_number}
+use Rattle.bmp_module.specs.Tables.{normal_number}
 use Rattle.bmp_sheaf.proofs.StalkPlaces.{removed_monomial}
 
 removed_same : (m : List ℕ) (l : ℕ) → remove m l ≡ Quotients.remove l m

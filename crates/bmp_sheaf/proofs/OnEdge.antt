@@ -1,5 +1,5 @@
 -- Coordinates on an edge of a graph: the laws of edge modules, for the edge's label.
-use Rattle.std.proofs.Common.{◌≡◌, ◌↔◌, ℕ, ◌+◌, ◌*◌, ◌<◌}
+use Rattle.std.proofs.Common.{◌≡◌, ℕ, ◌+◌, ◌*◌, ◌<◌}
 use Rattle.bmp_math.specs.Sums.{sum_below}
 use Rattle.bmp_math.specs.Vectors.{SameVector}
 use Rattle.bmp_graph.specs.Graph.{Graph, edge_count, upper, label}
@@ -24,9 +24,6 @@ module _ (G : Graph) (over : IsOverField G) (F : SheafData) (d e : ℕ) (inside 
 
   pub same_on_edge : (a b : Element) → ((i : ℕ) → i < edge_module_count G F d e → on_edge G F d e a i ≡ on_edge G F d e b i) → EqualOnEdge G F e d a b
   same_on_edge a b same = same_edge_numbers G.prime G.rank (leading G e) (label_coordinates G e) over.two over.inverses (label_leads G over e inside) (F.degrees (upper G e)) d a b same
-
-  pub on_edge_decides : (a b : Element) → EqualOnEdge G F e d a b ↔ ((i : ℕ) → i < edge_module_count G F d e → on_edge G F d e a i ≡ on_edge G F d e b i)
-  on_edge_decides a b = (on_edge_same a b, same_on_edge a b)
 
   pub on_edge_respects : (a b : Element) → SameElement G.prime G.rank (F.degrees (upper G e)) d a b → (i : ℕ) → i < edge_module_count G F d e → on_edge G F d e a i ≡ on_edge G F d e b i
   on_edge_respects a b same = edge_number_respects G.prime G.rank (leading G e) (label_coordinates G e) over.two over.inverses (label_leads G over e inside) (F.degrees (upper G e)) d a b same

@@ -7,7 +7,7 @@ use Rattle.bmp_math.specs.Matrices.{Matrix, NumbersBelow}
 use Rattle.bmp_linear.specs.declared.vector.Entry.{Entry}
 use Rattle.bmp_linear.specs.SparseVectors.{FitsBelow, ValuesBelow, number_at}
 use Rattle.bmp_sheaf.specs.EdgeMaps.{SameMatrix}
-use Rattle.bmp_sheaf.specs.EdgeModules.{HasColumnsOf}
+use Rattle.bmp_module.specs.Columns.{HasColumnsOf}
 use Rattle.bmp_linear.proofs.SparseLemmas.{number_at-past, number_at-push_same, number_at-push_other}
 
 -- the row has row i of the first n columns, each of as many numbers as there are rows

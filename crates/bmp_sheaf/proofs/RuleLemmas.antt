@@ -1,9 +1,9 @@
 -- The rules of a stalk, as they are tried.
-use Rattle.std.proofs.Common.{◌≡◌, ℕ, ◌+◌, ◌-◌, ◌*◌, ◌/◌, ◌%◌, ◌<◌, ◌≤◌, List, [], length, sym, ap, subst, ◌∙◌, inl, inr, arith}
+use Rattle.std.proofs.Common.{◌≡◌, ℕ, ◌+◌, ◌-◌, ◌*◌, ◌/◌, ◌<◌, List, [], length, sym, ap, subst, inl, inr, arith}
 use Rattle.std.specs.Prelude.{slice_index, slice_index_or}
 use Rattle.std.proofs.lemmas.Bool.{cases_eq}
 use Rattle.std.proofs.lemmas.List.{get_or_read}
-use Rattle.std.proofs.Math.Nat.{div-lt_iff_lt-mul, mod-lt}
+use Rattle.std.proofs.Math.Nat.{div-lt_iff_lt-mul}
 use Rattle.bmp_linear.specs.declared.vector.Entry.{Entry}
 use Rattle.bmp_linear.specs.SparseVectors.{FitsBelow}
 use Rattle.bmp_graph.specs.Graph.{Graph, IsGraph, IsUpRange, vertex_count, edge_count, lower, upper}
@@ -20,20 +20,7 @@ pub record HasRisen (degrees : List ℕ) (i before : ℕ) : Type 0 where
   pub earlier : (k : ℕ) → k < i → NeverFalls degrees k
 
 module _ (degrees : List ℕ) where
-  pub risen_none : HasRisen degrees 0 0
-  risen_none = record { start = λ e. e; last = λ k e. absurd (omega (arith, e)); earlier = λ k below. absurd (let none : k < 0 = below in omega arith) }
-
   module _ (i before d : ℕ) (here : d ≡ slice_index degrees i) (h : HasRisen degrees i before) where
-    pub risen_more : before ≤ d → HasRisen degrees (i + 1) d
-    risen_more rises = record {
-      start = λ e. absurd (omega (arith, e));
-      last = λ k e. here ∙ ap (slice_index degrees) (let same : i ≡ k = omega (arith, e) in same);
-      earlier = λ k below. elim (cases_eq k i) [
-        | inl same ↦ λ j next. let last : before ≡ slice_index degrees j = h.last j (next ∙ same) in omega (arith, last, here, rises, ap (slice_index degrees) same)
-        | inr other ↦ h.earlier k (omega (arith, below, other))
-      ];
-    }
-
     pub risen_breaks : d < before → i < length degrees → IsFirst (NeverFalls degrees) (length degrees) i
     risen_breaks falls inside = record { below = inside; broken = broken; earlier = h.earlier }
       where
@@ -57,9 +44,6 @@ module _ (G : Graph) (is : IsGraph G) (x from to : ℕ) (range : IsUpRange G x f
   edge_number_below =
       let number : i / n < up_count G x = (div-lt_iff_lt-mul some).1 inside in
       omega (arith, number, up_count_is G x from to range, range.ordered)
-
-  pub generator_number_below : i % n < n
-  generator_number_below = mod-lt i some
 
   pub is_edge : from + i / n < edge_count G
   is_edge = omega (arith, edge_number_below, range.within)

@@ -1,9 +1,12 @@
 -- What equal matrices share.
-use Rattle.std.proofs.Common.{◌≡◌, ℕ, ◌*◌, ◌<◌, ap, ◌∙◌, arith}
+use Rattle.std.proofs.Common.{◌≡◌, ℕ, ◌*◌, ◌<◌, refl, ap, ◌∙◌, arith}
 use Rattle.bmp_math.specs.Sums.{sum_below}
 use Rattle.bmp_math.specs.Matrices.{Matrix, NumbersBelow, image}
 use Rattle.bmp_math.proofs.SumLemmas.{sum_below_same}
 use Rattle.bmp_sheaf.specs.EdgeMaps.{SameMatrix}
+
+pub same_itself : (a : Matrix) → SameMatrix a a
+same_itself a = record { rows = refl; cols = refl; entries = λ i j row column. refl }
 
 module _ (a b : Matrix) (same : SameMatrix a b) where
   pub numbers_below_same : (p : ℕ) → NumbersBelow p b → NumbersBelow p a

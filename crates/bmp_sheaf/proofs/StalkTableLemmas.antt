@@ -1,5 +1,5 @@
 -- What is read from the table of a stalk.
-use Rattle.std.proofs.Common.{◌≡◌, ℕ, ◌+◌, ◌*◌, ◌/◌, ◌%◌, ◌<◌, ◌≤◌, List, [], length, sym, ap, ap₂, subst, ◌∙◌, arith, get_or}
+use Rattle.std.proofs.Common.{◌≡◌, ℕ, ◌+◌, ◌-◌, ◌*◌, ◌/◌, ◌%◌, ◌<◌, ◌≤◌, List, [], length, sym, ap, ap₂, subst, ◌∙◌, arith, get_or}
 use Rattle.std.specs.Prelude.{slice_index, slice_index_or}
 use Rattle.std.proofs.lemmas.List.{get_or_read}
 use Rattle.std.proofs.Math.Nat.{mul-le-mul_right}
@@ -8,6 +8,7 @@ use Rattle.bmp_math.specs.Matrices.{Matrix, NumbersBelow}
 use Rattle.bmp_linear.specs.declared.vector.Entry.{Entry}
 use Rattle.bmp_linear.specs.SparseVectors.{FitsBelow}
 use Rattle.bmp_linear.specs.RowTables.{EntryTable, matrix_of_entries}
+use Rattle.bmp_module.specs.declared.quotient.Quotient.{Quotient}
 use Rattle.bmp_graph.specs.Graph.{edge_count, lower, upper}
 use Rattle.bmp_sheaf.specs.Fields.{IsOverField}
 use Rattle.bmp_sheaf.specs.Coordinates.{stalk_count}
@@ -16,7 +17,7 @@ use Rattle.bmp_sheaf.specs.Written.{first_edge, up_count, IsUpPlace}
 use Rattle.bmp_sheaf.specs.EdgeMaps.{SameMatrix}
 use Rattle.bmp_sheaf.specs.States.{SheafState, stalk_of, sheaf_of}
 use Rattle.bmp_sheaf.specs.StalkFaults.{lift_room, IsStalk}
-use Rattle.bmp_sheaf.specs.StalkTables.{StalkTable, AreMapsUp, IsStalkTable, map_place}
+use Rattle.bmp_sheaf.specs.StalkTables.{StalkTable, IsEdgeModule, AreMapsUp, IsStalkTable, map_place}
 use Rattle.bmp_sheaf.proofs.SameMatrices.{numbers_below_same}
 use Rattle.bmp_sheaf.proofs.EdgeMaps.{lower_numbers_below, upper_numbers_below}
 
@@ -58,6 +59,12 @@ module _ {F : Type 0} (s : SheafState F) (x : ℕ) (t : StalkTable) (is : IsStal
 
     pub upper_kept_below : IsOverField s.graph → rows ≡ get_or t.upper k rows → NumbersBelow s.graph.prime (matrix_of_entries rows)
     upper_kept_below over read = numbers_below_same (matrix_of_entries rows) (upper_matrix s.graph (sheaf_of s) d e) (upper_kept read) s.graph.prime (upper_numbers_below s.graph over (sheaf_of s) d e below)
+
+  -- the module of the edge e
+  pub module_kept : (k : ℕ) (m : Quotient) → IsUpPlace s.graph (lower s.graph e) e k → m ≡ get_or t.edges k m → IsEdgeModule s e m
+  module_kept k m at read =
+      let place : k ≡ e - first_edge s.graph x = at.place ∙ ap (λ y. e - first_edge s.graph y) (sym starts) in
+      subst (IsEdgeModule s e) (sym (read ∙ ap (λ z. get_or t.edges z m) place)) (is.modules.each e m below (sym starts))
 
   -- the lift on the edge e of the generator g
   module _ (k g : ℕ) (at : IsUpPlace s.graph (lower s.graph e) e k) (generator : g < length (stalk_of s (lower s.graph e)).degrees) where

@@ -114,6 +114,20 @@ module _ (G : Graph) (x from to : ℕ) (range : IsUpRange G x from to) where
 pub up_place_of : (G : Graph) (e y from to : ℕ) → IsUpRange G y from to → y ≡ lower G e → e < edge_count G → IsUpPlace G (lower G e) e (e - from)
 up_place_of G e y from to range is below = up_place G (lower G e) from to (subst (λ z. IsUpRange G z from to) is range) e below refl
 
+-- the edge e goes up from x, as number k
+pub record GoesUp (G : Graph) (x e k : ℕ) : Type 0 where
+  pub is_edge : e < edge_count G
+  pub starts : lower G e ≡ x
+  pub at : IsUpPlace G x e k
+
+-- so does each of the range, which is that of an equal graph
+pub goes_up : (G H : Graph) (x from to e : ℕ) → H ≡ G → IsUpRange H x from to → from ≤ e → e < to → GoesUp G x e (e - from)
+goes_up G H x from to e same up past below =
+    let range : IsUpRange G x from to = subst (λ K. IsUpRange K x from to) same up in
+    let is_edge : e < edge_count G = omega (arith, below, range.within) in
+    let starts : lower G e ≡ x = range.inside e past below in
+    record { is_edge = is_edge; starts = starts; at = up_place G x from to range e is_edge starts }
+
 -- edges stand in the order of their lower ends, so that those that go up from x are a range of them
 module _ (G : Graph) (is : IsGraph G) where
   abbrev starts_below : ℕ → ℕ → ℕ

@@ -6,17 +6,16 @@
 --   AreEdgeCoordinates ..              the numbers are the coefficients of the normal forms of an element's components
 --   leading G e                        the place of the leading variable of the label of e
 --   boundary_start G F x d e           where the coordinates of the edge e stand among the boundary coordinates of x
---   AreBoundaryCoordinates ..          the edge coordinates of a boundary, edge after edge going up from x
 -- Generators go before monomials, and monomials in the order of their listing. All counts are of degree d.
-use Rattle.std.specs.Prelude.{◌≡◌, ℕ, ◌+◌, ◌-◌, ◌<◌, ◌%◌, ◌==◌, nat_le, if◌then◌else◌, List, length, slice_index, map, remove}
+use Rattle.std.specs.Prelude.{◌≡◌, ℕ, ◌+◌, ◌-◌, ◌%◌, ◌==◌, nat_le, if◌then◌else◌, List, length, slice_index, map, remove}
 use Rattle.bmp_math.specs.Sums.{sum_below}
 use Rattle.bmp_poly.specs.Exponents.{IsMonomial, count, place}
 use Rattle.bmp_poly.specs.Forms.{Form, IsNormalForm}
-use Rattle.bmp_graph.specs.Graph.{Graph, edge_count, lower, upper, label}
+use Rattle.bmp_graph.specs.Graph.{Graph, edge_count, lower, upper}
 use Rattle.bmp_graph.specs.declared.edge.Edge.{Edge}
 use Rattle.bmp_poly.specs.Labels.{leading_of}
 use Rattle.bmp_sheaf.specs.Elements.{Element, HasComponent}
-use Rattle.bmp_sheaf.specs.Sheaves.{SheafData, Boundary}
+use Rattle.bmp_sheaf.specs.Sheaves.{SheafData}
 
 -- how many monomials in r variables the polynomial at a generator of degree e has: none where e is above d
 abbrev pub component_count : ℕ → ℕ → ℕ → ℕ
@@ -61,8 +60,3 @@ module _ (G : Graph) (F : SheafData) where
 
   abbrev pub boundary_count : ℕ → ℕ → ℕ
   boundary_count x d = boundary_start x d (edge_count G)
-
-  abbrev pub AreBoundaryCoordinates : ℕ → ℕ → Boundary → (ℕ → ℕ) → Type 0
-  AreBoundaryCoordinates x d b numbers =
-      (e : ℕ) → e < edge_count G → lower G e ≡ x →
-      AreEdgeCoordinates G.prime G.rank (label G e) (leading G e) (F.degrees (upper G e)) d (b e) (λ i. numbers (boundary_start x d e + i))

@@ -1,13 +1,22 @@
 -- The tables of normal forms for the labels of a graph. In the order to read:
+--   IsBy t x                     the label of t has the prime, the rank and the coordinates of x
 --   IsTableOf G D e t            t is by the label of the edge e, for the degrees from 0 to D
 --   HasTable G D tables k e      one of the tables, the one numbered k, is that of the edge e
 --   HasTables G D n tables numbers     each of the first n edges has its table, at its number
+--   AreByDifferentLabels tables  no two of the tables are by one label
 use Rattle.std.specs.Prelude.{◌≡◌, ℕ, ◌+◌, ◌<◌, List, length, slice_index, slice_index_or}
+use Rattle.bmp_poly.specs.declared.label.Label.{Label}
 use Rattle.bmp_poly.specs.Labels.{prime_of, rank_of, leading_of, coordinate_of}
 use Rattle.bmp_graph.specs.Graph.{Graph, label}
-use Rattle.bmp_sheaf.specs.declared.normal_table.NormalTable.{NormalTable}
+use Rattle.bmp_module.specs.declared.normal_table.NormalTable.{NormalTable}
 use Rattle.bmp_sheaf.specs.Coordinates.{leading}
-use Rattle.bmp_sheaf.specs.NormalTables.{label_of, degrees_of}
+use Rattle.bmp_module.specs.NormalTables.{label_of, degrees_of}
+
+pub record IsBy (t : NormalTable) (x : Label) : Type 0 where
+  pub prime : prime_of (label_of t) ≡ prime_of x
+  pub rank : rank_of (label_of t) ≡ rank_of x
+  pub leading : leading_of (label_of t) ≡ leading_of x
+  pub coordinates : coordinate_of (label_of t) ≡ coordinate_of x
 
 pub record IsTableOf (G : Graph) (D e : ℕ) (t : NormalTable) : Type 0 where
   pub prime : prime_of (label_of t) ≡ G.prime
@@ -23,3 +32,6 @@ pub record HasTable (G : Graph) (D : ℕ) (tables : List NormalTable) (k e : ℕ
 pub record HasTables (G : Graph) (D n : ℕ) (tables : List NormalTable) (numbers : List ℕ) : Type 0 where
   pub sized : length numbers ≡ n
   pub each : (e : ℕ) → e < n → HasTable G D tables (slice_index numbers e) e
+
+abbrev pub AreByDifferentLabels : List NormalTable → Type 0
+AreByDifferentLabels tables = (i j : ℕ) (t : NormalTable) → i < j → j < length tables → ¬ IsBy (slice_index_or tables i t) (label_of (slice_index_or tables j t))

@@ -5,14 +5,13 @@ pub mod Sheaves
 pub mod Coordinates
 pub mod Numbers
 pub mod Written
-pub mod Tables
-pub mod NormalTables
 pub mod LabelTables
 pub mod EdgeMaps
 pub mod States
 pub mod StalkFaults
 pub mod StalkTables
-pub mod Terms
 pub mod EdgeModules
 pub mod Boundaries
 pub mod Statements
+pub mod ModuleMaps
+pub mod GradedStatements

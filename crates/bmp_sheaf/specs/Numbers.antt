@@ -1,6 +1,4 @@
 -- Coordinates as numbers modulo the prime, and the maps of a sheaf as matrices. In the order to read:
---   normal_number p r c l s a i        coefficient i of the normal form of a, of degree s, by the label c whose leading variable is l:
---                                      that of the i-th monomial without this variable
 --   edge_number p r c l degrees d a i  coordinate i of the element a, of degree d, in the edge module: generator after generator
 --   on_edge G F d e a i                the same on the edge e, of an element at its upper end
 --   boundary_number G F x d b k        coordinate k of the boundary b at x: edge after edge going up from x
@@ -9,21 +7,15 @@
 --   upper_number G F d e i j           coordinate i on e of the upper stalk's element that is 1 at coordinate j
 --   lower_matrix, upper_matrix         the two maps to the edge module of e: a row for each of its coordinates
 --   boundary_matrix G F x d            the boundary map: a row for each boundary coordinate, a column for each stalk coordinate
-use Rattle.std.specs.Prelude.{ℕ, ◌-◌, ◌%◌, ◌==◌, if◌then◌else◌, List, length, slice_index}
+use Rattle.std.specs.Prelude.{ℕ, ◌-◌, ◌==◌, if◌then◌else◌, List, length, slice_index}
 use Rattle.bmp_math.specs.Blocks.{joined}
 use Rattle.bmp_math.specs.Vectors.{unit}
 use Rattle.bmp_math.specs.Matrices.{Matrix}
-use Rattle.bmp_poly.specs.Exponents.{exponents}
-use Rattle.bmp_poly.specs.Forms.{Form}
-use Rattle.bmp_graded.specs.NormalForms.{normal_by}
-use Rattle.bmp_graded.specs.Quotients.{insert}
+use Rattle.bmp_module.specs.Tables.{normal_number}
 use Rattle.bmp_graph.specs.Graph.{Graph, edge_count, lower, upper, label}
 use Rattle.bmp_sheaf.specs.Elements.{Element}
 use Rattle.bmp_sheaf.specs.Sheaves.{SheafData, Boundary, lift_of, boundary_of_element}
 use Rattle.bmp_sheaf.specs.Coordinates.{component_count, stalk_count, element_of, leading, edge_module_count, boundary_count}
-
-abbrev pub normal_number : ℕ → ℕ → (ℕ → ℕ) → ℕ → ℕ → Form → ℕ → ℕ
-normal_number p r c l s a i = normal_by p r l c s a (insert l (exponents 5 (r - 1) s i)) % p
 
 abbrev pub edge_number : ℕ → ℕ → (ℕ → ℕ) → ℕ → List ℕ → ℕ → Element → ℕ → ℕ
 edge_number p r c l degrees d a =

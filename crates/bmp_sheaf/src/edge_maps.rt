@@ -1,19 +1,27 @@
 //! The two maps of one edge, in one degree, as sparse rows.
-ghost use Rattle.std.specs.Prelude.{◌≡◌, ℕ, ◌+◌, ◌-◌, ◌*◌, ◌<◌, ◌≤◌, [], All, IfOk, OnOk, length, slice_index, slice_index_or};
+ghost use Rattle.std.specs.Prelude.{◌≡◌, ℕ, ◌+◌, ◌-◌, ◌*◌, ◌^◌, ◌<◌, ◌≤◌, [], All, IfOk, OnOk, length, slice_index, slice_index_or};
 ghost use Rattle.bmp_linear.specs.SparseVectors.{FitsBelow, ValuesBelow, number_at};
 ghost use Rattle.bmp_linear.specs.RowTables.{matrix_of_entries};
-ghost use Rattle.bmp_poly.specs.Labels.{prime_of, rank_of as label_rank_of};
+ghost use Rattle.bmp_poly.specs.Labels.{prime_of, rank_of as label_rank_of, leading_of, coordinate_of};
+ghost use Rattle.bmp_sheaf.specs.Coordinates.{stalk_count};
+ghost use Rattle.bmp_sheaf.specs.Numbers.{edge_number};
+ghost use Rattle.bmp_graded.specs.Modules.{free};
+ghost use Rattle.bmp_graded.specs.Maps.{extension};
 ghost use Rattle.bmp_module.specs.FreeModules.{rank_of, degrees_of};
-ghost use Rattle.bmp_sheaf.specs.NormalTables.{label_of, degrees_of as table_degrees_of};
-ghost use Rattle.bmp_sheaf.specs.EdgeModules.{Meets, HasColumnsOf, lower_map_on, upper_map_on};
-ghost use Rattle.bmp_sheaf.specs.EdgeMaps.{LiftsFit, SameMatrix};
+ghost use Rattle.bmp_module.specs.Images.{AreImages, image_coordinates};
+ghost use Rattle.bmp_module.specs.Columns.{matrix_of_map};
+ghost use Rattle.bmp_module.specs.NormalTables.{label_of, degrees_of as table_degrees_of};
+ghost use Rattle.bmp_module.specs.QuotientModules.{free_of, label_of as quotient_label_of};
+ghost use Rattle.bmp_sheaf.specs.Units.{unit_element};
+ghost use Rattle.bmp_sheaf.specs.EdgeModules.{AreImagesOf, lower_map_on, upper_map_on};
+ghost use Rattle.bmp_sheaf.specs.EdgeMaps.{LiftsFit, SameMatrix, lift_by};
 
-use crate::counts;
-use crate::multiples::EdgeModule;
-use crate::normal_table::NormalTable;
 use bmp_field::Field;
 use bmp_linear::{Entry, RowSpace, SparseRows, Vector};
-use bmp_module::Free;
+use bmp_module::{
+    Coordinates, Free, GradedModule, Linear, ModuleMap, NormalTable, Projection, Quotient,
+    TabledQuotient,
+};
 use std::alloc::{AllocError, Global};
 
 /// Makes the vector row `i` of the columns, each of as many numbers as there are rows.
@@ -66,45 +74,86 @@ fn sparse_rows<F: Field>(
     Ok(sparse)
 }
 
-impl<F: Field> EdgeModule<'_, F> {
-    /// The columns of the lifts of the generators of `from`, one generator after another.
-    fn lower_columns(
-        &self,
-        alloc: Global,
-        from: &Free,
-        lifts: &[Vector],
-    ) -> Result<Vec<u8>, AllocError>
-        requires meets { Meets (F.size self.now.field.now) self.now.table.now self.now.into.now self.now.degree }
-        requires from { rank_of from.now ≡ rank_of self.now.into.now }
-        requires lifts { length lifts.now ≡ length (degrees_of from.now) }
-        requires fit { LiftsFit (rank_of self.now.into.now) (degrees_of from.now) (degrees_of self.now.into.now) lifts.now }
-        requires values { All (λ v. ValuesBelow v (F.size self.now.field.now)) lifts.now }
-        ensures { IfOk result (λ columns. HasColumnsOf
-            (lower_map_on self.now.table.now self.now.into.now self.now.degree (degrees_of from.now) lifts.now) columns.items) }
-    {
-        let mut columns = Vec::new(alloc);
-        for g in 0..from.generators() {
-            let lift = &lifts[g as usize];
-            self.push_lift(alloc, from.degree_of(g), lift, &mut columns)?;
-        }
-        Ok(columns)
-    }
+/// The matrix of a linear map in degree `d`: a row for each coordinate of the module that it leads to, a column for each of the
+/// free module. Wants memory also where there are 2^32 or more coordinates.
+fn rows_of<F: Field, N: GradedModule<F>>(
+    alloc: Global,
+    f: &F,
+    from: &Free,
+    over: &N,
+    images: &[N::Elem],
+    d: u32,
+) -> Result<SparseRows<F>, AllocError>
+    requires fits { N.fits over.now (F.size f.now) }
+    requires rank { N.rank over.now ≡ rank_of from.now }
+    requires images { AreImages (N.is_element over.now f.now) (N.degree over.now) (degrees_of from.now) images.now }
+    requires degree { d ≤ 6 }
+    requires small { (N.graded over.now).dim d < 2 ^ 64 }
+    ensures { let M = N.graded over.now in let r = rank_of from.now in let gs = degrees_of from.now in
+        IfOk result (λ sparse. SameMatrix (matrix_of_entries sparse) (matrix_of_map (F.size f.now) (free r gs) M
+        (extension r M gs (image_coordinates (N.coordinate over.now f.now) images.now)) d)) }
+{
+    let map = Linear::new(from, over, images);
+    let columns = map.columns(alloc, f, d)?;
+    let cols = <Free as GradedModule<F>>::dim(from, d);
+    let sparse = sparse_rows(alloc, f, over.dim(d), cols, &columns)?;
+    Ok(sparse)
+}
 
-    /// The columns of the generators of the module, one after another.
-    fn upper_columns(&self, alloc: Global) -> Result<Vec<u8>, AllocError>
-        requires meets { Meets (F.size self.now.field.now) self.now.table.now self.now.into.now self.now.degree }
-        ensures { IfOk result (λ columns. HasColumnsOf
-            (upper_map_on self.now.table.now self.now.into.now self.now.degree) columns.items) }
-    {
-        let rank = self.into.rank();
-        let mut columns = Vec::new(alloc);
-        let mut start = 0;
-        for g in 0..self.into.generators() {
-            self.push_generator(alloc, g, start, &mut columns)?;
-            start += counts::edge_component_len(rank, self.degree, self.into.degree_of(g)) as usize;
-        }
-        Ok(columns)
+/// The generators of the module, as elements of its quotient.
+fn generators<F: Field>(
+    alloc: Global,
+    f: &F,
+    quotient: &Quotient,
+) -> Result<Vec<Coordinates<F>>, AllocError>
+    requires prime { F.size f.now ≡ prime_of (quotient_label_of quotient.now) }
+    requires degrees { All (λ a. a ≤ 6) (degrees_of (free_of quotient.now)) }
+    ensures { let x = quotient_label_of quotient.now in let into = degrees_of (free_of quotient.now) in
+        IfOk result (λ images. AreImagesOf (⟦<Quotient as GradedModule<F>>⟧.is_element quotient.now f.now) (⟦<Quotient as GradedModule<F>>⟧.degree quotient.now)
+        (⟦<Quotient as GradedModule<F>>⟧.coordinate quotient.now f.now) (edge_number (prime_of x) (label_rank_of x) (coordinate_of x) (leading_of x) into)
+        (stalk_count (label_rank_of x - 1) into) (degrees_of (free_of quotient.now)) unit_element images.items) }
+{
+    let free = quotient.free();
+    let projection = Projection::new(quotient);
+    let mut images = Vec::with_capacity(alloc, free.generators() as usize)?;
+    for g in 0..free.generators() {
+        let generator = free.generator(alloc, f, g)?;
+        let image = projection.apply(alloc, f, &generator)?;
+        images.push(image)?;
     }
+    Ok(images)
+}
+
+/// The lifts of the generators of `from`, as elements of the quotient.
+fn lifted<F: Field>(
+    alloc: Global,
+    f: &F,
+    quotient: &Quotient,
+    from: &Free,
+    lifts: &[Vector],
+) -> Result<Vec<Coordinates<F>>, AllocError>
+    requires prime { F.size f.now ≡ prime_of (quotient_label_of quotient.now) }
+    requires degrees { All (λ a. a ≤ 6) (degrees_of from.now) }
+    requires lifts { length lifts.now ≡ length (degrees_of from.now) }
+    requires fit { LiftsFit (rank_of (free_of quotient.now)) (degrees_of from.now) (degrees_of (free_of quotient.now)) lifts.now }
+    requires values { All (λ v. ValuesBelow v (F.size f.now)) lifts.now }
+    ensures { let x = quotient_label_of quotient.now in let into = degrees_of (free_of quotient.now) in
+        IfOk result (λ images. AreImagesOf (⟦<Quotient as GradedModule<F>>⟧.is_element quotient.now f.now) (⟦<Quotient as GradedModule<F>>⟧.degree quotient.now)
+        (⟦<Quotient as GradedModule<F>>⟧.coordinate quotient.now f.now) (edge_number (prime_of x) (label_rank_of x) (coordinate_of x) (leading_of x) into)
+        (stalk_count (label_rank_of x - 1) into) (degrees_of from.now) (lift_by (label_rank_of x) (degrees_of from.now) into lifts.now) images.items) }
+{
+    let into = quotient.free();
+    let projection = Projection::new(quotient);
+    let mut images = Vec::with_capacity(alloc, from.generators() as usize)?;
+    for g in 0..from.generators() {
+        let a = from.degree_of(g);
+        let mut numbers = vec![in alloc; 0; <Free as GradedModule<F>>::dim(into, a) as usize]?;
+        lifts[g as usize].spread(&mut numbers);
+        let lift = into.element(alloc, f, a, &numbers)?;
+        let image = projection.apply(alloc, f, &lift)?;
+        images.push(image)?;
+    }
+    Ok(images)
 }
 
 /// The two maps to the module of one edge, in one degree.
@@ -116,39 +165,75 @@ pub(crate) struct EdgeMaps<F: Field> {
     pub(crate) upper: SparseRows<F>,
 }
 
-/// The maps of an edge in degree `d`, by the stalks at its lower and its upper end, and the lifts of the lower one's
-/// generators. Wants memory also where there are 2^32 or more coordinates.
+/// The images of the generators at the two ends of an edge, in the edge's module.
+#[derive(Drop)]
+pub(crate) struct EdgeImages<F: Field> {
+    /// The lifts of the generators at the lower end.
+    lower: Vec<Coordinates<F>>,
+    /// The generators at the upper end.
+    upper: Vec<Coordinates<F>>,
+}
+
+/// The images in the edge's module of the generators of the lower stalk `from`, by their lifts, and of the upper one's.
+pub(crate) fn edge_images<F: Field>(
+    alloc: Global,
+    f: &F,
+    quotient: &Quotient,
+    from: &Free,
+    lifts: &[Vector],
+) -> Result<EdgeImages<F>, AllocError>
+    requires prime { F.size f.now ≡ prime_of (quotient_label_of quotient.now) }
+    requires low { All (λ a. a ≤ 6) (degrees_of from.now) }
+    requires high { All (λ a. a ≤ 6) (degrees_of (free_of quotient.now)) }
+    requires lifts { length lifts.now ≡ length (degrees_of from.now) }
+    requires fit { LiftsFit (rank_of (free_of quotient.now)) (degrees_of from.now) (degrees_of (free_of quotient.now)) lifts.now }
+    requires values { All (λ v. ValuesBelow v (F.size f.now)) lifts.now }
+    ensures lower { let x = quotient_label_of quotient.now in let into = degrees_of (free_of quotient.now) in
+        IfOk result (λ images. AreImagesOf (⟦<Quotient as GradedModule<F>>⟧.is_element quotient.now f.now) (⟦<Quotient as GradedModule<F>>⟧.degree quotient.now)
+        (⟦<Quotient as GradedModule<F>>⟧.coordinate quotient.now f.now) (edge_number (prime_of x) (label_rank_of x) (coordinate_of x) (leading_of x) into)
+        (stalk_count (label_rank_of x - 1) into) (degrees_of from.now) (lift_by (label_rank_of x) (degrees_of from.now) into lifts.now) images.lower.items) }
+    ensures upper { let x = quotient_label_of quotient.now in let into = degrees_of (free_of quotient.now) in
+        IfOk result (λ images. AreImagesOf (⟦<Quotient as GradedModule<F>>⟧.is_element quotient.now f.now) (⟦<Quotient as GradedModule<F>>⟧.degree quotient.now)
+        (⟦<Quotient as GradedModule<F>>⟧.coordinate quotient.now f.now) (edge_number (prime_of x) (label_rank_of x) (coordinate_of x) (leading_of x) into)
+        (stalk_count (label_rank_of x - 1) into) into unit_element images.upper.items) }
+{
+    let lower = lifted(alloc, f, quotient, from, lifts)?;
+    let upper = generators(alloc, f, quotient)?;
+    Ok(EdgeImages { lower, upper })
+}
+
+/// The maps to an edge's module in degree `d`, by the images of the generators, which are those by the lifts. The table is that of
+/// the module's label. Wants memory also where there are 2^32 or more coordinates.
 pub(crate) fn edge_maps<F: Field>(
     alloc: Global,
     f: &F,
     table: &NormalTable,
+    quotient: &Quotient,
     from: &Free,
-    into: &Free,
     lifts: &[Vector],
+    images: &EdgeImages<F>,
     d: u32,
 ) -> Result<EdgeMaps<F>, AllocError>
     requires prime { F.size f.now ≡ prime_of (label_of table.now) }
+    requires label { quotient_label_of quotient.now ≡ label_of table.now }
     requires from { rank_of from.now ≡ label_rank_of (label_of table.now) }
-    requires into { rank_of into.now ≡ label_rank_of (label_of table.now) }
     requires degree { d < table_degrees_of table.now }
-    requires lifts { length lifts.now ≡ length (degrees_of from.now) }
-    requires fit { LiftsFit (rank_of into.now) (degrees_of from.now) (degrees_of into.now) lifts.now }
-    requires values { All (λ v. ValuesBelow v (F.size f.now)) lifts.now }
+    requires lower { let x = quotient_label_of quotient.now in let into = degrees_of (free_of quotient.now) in
+        AreImagesOf (⟦<Quotient as GradedModule<F>>⟧.is_element quotient.now f.now) (⟦<Quotient as GradedModule<F>>⟧.degree quotient.now)
+        (⟦<Quotient as GradedModule<F>>⟧.coordinate quotient.now f.now) (edge_number (prime_of x) (label_rank_of x) (coordinate_of x) (leading_of x) into)
+        (stalk_count (label_rank_of x - 1) into) (degrees_of from.now) (lift_by (label_rank_of x) (degrees_of from.now) into lifts.now) images.now.lower.items }
+    requires upper { let x = quotient_label_of quotient.now in let into = degrees_of (free_of quotient.now) in
+        AreImagesOf (⟦<Quotient as GradedModule<F>>⟧.is_element quotient.now f.now) (⟦<Quotient as GradedModule<F>>⟧.degree quotient.now)
+        (⟦<Quotient as GradedModule<F>>⟧.coordinate quotient.now f.now) (edge_number (prime_of x) (label_rank_of x) (coordinate_of x) (leading_of x) into)
+        (stalk_count (label_rank_of x - 1) into) into unit_element images.now.upper.items }
     ensures lower { IfOk result (λ maps. SameMatrix (matrix_of_entries maps.lower)
-        (lower_map_on table.now into.now d (degrees_of from.now) lifts.now)) }
+        (lower_map_on table.now (free_of quotient.now) d (degrees_of from.now) lifts.now)) }
     ensures upper { IfOk result (λ maps. SameMatrix (matrix_of_entries maps.upper)
-        (upper_map_on table.now into.now d)) }
+        (upper_map_on table.now (free_of quotient.now) d)) }
 {
-    let module = EdgeModule {
-        field: f,
-        table,
-        into,
-        degree: d,
-    };
-    let rows = counts::edge_len(into, d);
-    let columns = module.lower_columns(alloc, from, lifts)?;
-    let lower = sparse_rows(alloc, f, rows, counts::stalk_len(from, d), &columns)?;
-    let columns = module.upper_columns(alloc)?;
-    let upper = sparse_rows(alloc, f, rows, counts::stalk_len(into, d), &columns)?;
+    let module = TabledQuotient::new(quotient, table);
+    let into = quotient.free();
+    let lower = rows_of(alloc, f, from, &module, &images.lower, d)?;
+    let upper = rows_of(alloc, f, into, &module, &images.upper, d)?;
     Ok(EdgeMaps { lower, upper })
 }

@@ -1,19 +1,18 @@
 //! The tables of normal forms for the labels of a graph, one for each different label.
-ghost use Rattle.std.specs.Prelude.{◌≡◌, ◌<◌, ◌≤◌, ◌+◌, IfOk, IsTrue, length, slice_index, slice_index_or};
+ghost use Rattle.std.specs.Prelude.{◌≡◌, ◌↔◌, ℕ, ◌<◌, ◌≤◌, ◌+◌, IfOk, IsTrue, length, slice_index, slice_index_or};
 ghost use Rattle.bmp_graph.specs.Graph.{edge_count};
-ghost use Rattle.bmp_sheaf.specs.declared.normal_table.NormalTable.{NormalTable};
-ghost use Rattle.bmp_sheaf.specs.NormalTables.{IsBy};
-ghost use Rattle.bmp_sheaf.specs.LabelTables.{HasTables};
+ghost use Rattle.bmp_module.specs.declared.normal_table.NormalTable.{NormalTable};
+ghost use Rattle.bmp_sheaf.specs.LabelTables.{IsBy, HasTables, AreByDifferentLabels};
 
-use crate::normal_table::NormalTable;
 use bmp_field::Field;
 use bmp_graph::MomentGraph;
+use bmp_module::NormalTable;
 use bmp_poly::Label;
 use std::alloc::{AllocError, Global};
 
 /// Whether the table is by an equal label.
 fn is_by(table: &NormalTable, label: &Label) -> bool
-    ensures { IsTrue result → IsBy table.now label.now }
+    ensures { IsTrue result ↔ IsBy table.now label.now }
 {
     *table.label() == *label
 }
@@ -22,6 +21,7 @@ fn is_by(table: &NormalTable, label: &Label) -> bool
 fn find(tables: &[NormalTable], label: &Label) -> usize
     ensures within { result ≤ length tables.now }
     ensures found { (t : NormalTable) → result < length tables.now → IsBy (slice_index_or tables.now result t) label.now }
+    ensures first { (k : ℕ) (t : NormalTable) → k < result → ¬ IsBy (slice_index_or tables.now k t) label.now }
 {
     for (number, table) in tables.iter().enumerate() {
         if is_by(table, label) {
@@ -48,8 +48,9 @@ impl LabelTables {
     ) -> Result<LabelTables, AllocError>
         requires prime { F.size f.now ≡ graph.now.prime }
         requires degree { degree ≤ 6 }
-        ensures { IfOk result (λ t.
+        ensures tables { IfOk result (λ t.
             HasTables graph.now degree (edge_count graph.now) t.tables.items t.numbers.items) }
+        ensures different { IfOk result (λ t. AreByDifferentLabels t.tables.items) }
     {
         let mut tables = Vec::new(alloc);
         let mut numbers = Vec::with_capacity(alloc, graph.edges() as usize)?;

@@ -1,4 +1,5 @@
 //! Laws of the definitions, each the contract of a function without a body.
+ghost use Rattle.bmp_sheaf.specs.GradedStatements.{StalksAreFreeModules, EdgeModulesAreQuotients, CongruentIsSameModulo, EdgeNumbersAreProjections, EdgeMapsAreModuleMaps, EdgeMatricesAreOfModuleMaps};
 ghost use Rattle.bmp_sheaf.specs.Statements.{EdgeCoordinatesDecide, EdgeNumbersAreCoordinates, EdgeNumbersAreSmall, BoundaryNumbersDecide, LowerMatrixIsOfLift, UpperMatrixIsOfElement, BoundaryMatrixIsOfBoundary};
 
 /// Elements are equal on an edge exactly where their coordinates there are.
@@ -23,4 +24,15 @@ pub fn matrices_are_those_of_maps()
     ensures lower { LowerMatrixIsOfLift }
     ensures upper { UpperMatrixIsOfElement }
     ensures boundary { BoundaryMatrixIsOfBoundary }
+{}
+
+/// Stalks and edge modules are the graded modules of the layer below: free modules and their quotients, with the same
+/// coordinates, the same equality, and module maps between them, whose matrices are those of the edges.
+pub fn stalks_and_edges_are_graded_modules()
+    ensures stalks { StalksAreFreeModules }
+    ensures edges { EdgeModulesAreQuotients }
+    ensures equality { CongruentIsSameModulo }
+    ensures coordinates { EdgeNumbersAreProjections }
+    ensures maps { EdgeMapsAreModuleMaps }
+    ensures matrices { EdgeMatricesAreOfModuleMaps }
 {}

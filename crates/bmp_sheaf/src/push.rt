@@ -8,7 +8,7 @@ ghost use Rattle.bmp_sheaf.specs.States.{Stalk, next_vertex, with_stalk, sheaf_o
 ghost use Rattle.bmp_sheaf.specs.StalkFaults.{IsStalk};
 ghost use Rattle.bmp_sheaf.specs.StalkTables.{AreModulesUp, AreMapsUp, IsStalkTable, stalk_in};
 
-use crate::edge_maps::edge_maps;
+use crate::edge_maps::{edge_images, edge_maps};
 use crate::sheaf::Sheaf;
 use crate::stalk::StalkPart;
 use bmp_field::Field;
@@ -27,37 +27,24 @@ fn copied(alloc: Global, vectors: &[Vector]) -> Result<Vectors, AllocError>
     Ok(copy)
 }
 
-/// The maps to the modules of the edges going up from a vertex, from the stalks at the lower and at the upper ends.
+/// The modules of the edges going up from a vertex, and the maps to them from the stalks at the lower and at the upper ends.
 #[derive(Drop)]
 struct MapsUp<F: Field> {
+    modules: Vec<Quotient>,
     lower: Vec<SparseRows<F>>,
     upper: Vec<SparseRows<F>>,
 }
 
 impl<F: Field> Sheaf<F> {
-    /// The modules of the edges going up from the vertex `x`, the next one.
-    fn modules_up(&self, x: u32) -> Result<Vec<Quotient>, AllocError>
-        requires left { length self.now.stalks < vertex_count self.now.graph }
-        requires next { x ≡ next_vertex self.now }
-        ensures { IfOk result (λ modules. AreModulesUp self.now x modules.items) }
-    {
-        let (first, past) = self.graph().up(x);
-        let mut modules = Vec::with_capacity(self.allocator(), (past - first) as usize)?;
-        for e in first..past {
-            let edge = self.graph().edge(e);
-            let module = Quotient::new(self.allocator(), self.stalk(edge.upper), &edge.label)?;
-            modules.push(module)?;
-        }
-        Ok(modules)
-    }
-
-    /// The maps to these modules in each degree, where the stalk `from` with these lifts comes to `x`, the next vertex.
+    /// The modules of the edges going up from `x`, the next vertex, and the maps to them in each degree, where the stalk `from`
+    /// with these lifts comes to `x`.
     fn maps_up(&self, x: u32, from: &Free, lifts: &[Vector]) -> Result<MapsUp<F>, AllocError>
         requires left { length self.now.stalks < vertex_count self.now.graph }
         requires next { x ≡ next_vertex self.now }
         requires rank { rank_of from.now ≡ self.now.graph.rank }
         requires stalk { IsStalk self.now x (degrees_of from.now) lifts.now }
         requires values { All (λ v. ValuesBelow v self.now.graph.prime) lifts.now }
+        ensures modules { IfOk result (λ maps. AreModulesUp self.now x maps.modules.items) }
         ensures lower { let s = with_stalk self.now (record { degrees = degrees_of from.now; lifts = lifts.now }) in
             IfOk result (λ maps. AreMapsUp s x (lower_matrix s.graph (sheaf_of s)) maps.lower.items) }
         ensures upper { let s = with_stalk self.now (record { degrees = degrees_of from.now; lifts = lifts.now }) in
@@ -66,19 +53,28 @@ impl<F: Field> Sheaf<F> {
         let alloc = self.allocator();
         let generators = from.generators() as usize;
         let (first, past) = self.graph().up(x);
+        let mut modules = Vec::with_capacity(alloc, (past - first) as usize)?;
         let mut lower = Vec::new(alloc);
         let mut upper = Vec::new(alloc);
         for e in first..past {
             let into = self.stalk(self.graph().edge(e).upper);
             let start = (e - first) as usize * generators;
             let own = &lifts[start..start + generators];
+            let table = self.table(e);
+            let module = Quotient::new(alloc, into, table.label())?;
+            let images = edge_images(alloc, self.field(), &module, from, own)?;
             for d in 0..self.degree() + 1 {
-                let maps = edge_maps(alloc, self.field(), self.table(e), from, into, own, d)?;
+                let maps = edge_maps(alloc, self.field(), table, &module, from, own, &images, d)?;
                 lower.push(maps.lower)?;
                 upper.push(maps.upper)?;
             }
+            modules.push(module)?;
         }
-        Ok(MapsUp { lower, upper })
+        Ok(MapsUp {
+            modules,
+            lower,
+            upper,
+        })
     }
 
     /// What is kept of the stalk with these degrees and lifts, which comes to `x`, the next vertex.
@@ -102,7 +98,7 @@ impl<F: Field> Sheaf<F> {
         Ok(StalkPart {
             module,
             lifts: copied(alloc, lifts)?,
-            edges: self.modules_up(x)?,
+            edges: maps.modules,
             lower: maps.lower,
             upper: maps.upper,
         })

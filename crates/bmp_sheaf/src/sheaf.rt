@@ -4,24 +4,25 @@ ghost use Rattle.bmp_math.specs.Matrices.{Matrix, NumbersBelow};
 ghost use Rattle.bmp_linear.specs.SparseVectors.{FitsBelow, ValuesBelow, number_at};
 ghost use Rattle.bmp_linear.specs.RowTables.{EntryTable, matrix_of_entries};
 ghost use Rattle.bmp_module.specs.FreeModules.{rank_of, degrees_of};
+ghost use Rattle.bmp_module.specs.Columns.{matrix_of_map};
 ghost use Rattle.bmp_graph.specs.Graph.{Graph, vertex_count, edge_count, lower, upper};
 ghost use Rattle.bmp_sheaf.specs.Coordinates.{stalk_count, element_of, edge_module_count};
 ghost use Rattle.bmp_sheaf.specs.Numbers.{lower_number, upper_number, lower_matrix, upper_matrix};
 ghost use Rattle.bmp_sheaf.specs.Written.{up_count, lift_place, IsUpPlace};
 ghost use Rattle.bmp_sheaf.specs.LabelTables.{IsTableOf};
 ghost use Rattle.bmp_sheaf.specs.EdgeMaps.{SameMatrix};
+ghost use Rattle.bmp_sheaf.specs.ModuleMaps.{stalk_module, edge_module, from_lower, from_upper};
 ghost use Rattle.bmp_sheaf.specs.States.{Stalk, SheafState, IsState, stalk_of, IsThere, next_vertex, sheaf_of};
 ghost use Rattle.bmp_sheaf.specs.StalkFaults.{IsStalk, BreaksFirst};
 ghost use Rattle.bmp_sheaf.specs.StalkTables.{IsEdgeModule, IsStalkTable, map_place};
 
 use crate::fault::SheafFault;
 use crate::label_tables::LabelTables;
-use crate::normal_table::NormalTable;
 use crate::stalk::StalkPart;
 use bmp_field::Field;
 use bmp_graph::MomentGraph;
 use bmp_linear::{Rows, SparseRows, Vector};
-use bmp_module::{Free, Quotient};
+use bmp_module::{Free, GradedModule, NormalTable, Quotient};
 use std::alloc::{AllocError, Global};
 use std::marker::Model;
 
@@ -183,7 +184,9 @@ impl<F: Field> Sheaf<F> {
     pub fn edge_module(&self, e: u32) -> &Quotient
         requires edge { e < edge_count self.now.graph }
         requires there { IsThere self.now (lower self.now.graph e) }
-        ensures { IsEdgeModule self.now e result.now }
+        ensures module { IsEdgeModule self.now e result.now }
+        ensures graded { ⟦<Quotient as GradedModule<F>>⟧.graded result.now ≡ edge_module self.now.graph (sheaf_of self.now) e }
+        ensures dimension { (d : ℕ) → (⟦<Quotient as GradedModule<F>>⟧.graded result.now).dim d ≡ edge_module_count self.now.graph (sheaf_of self.now) d e }
     {
         let part = self.part(self.graph.edge(e).lower);
         &part.edges[self.up_place(e) as usize]
@@ -207,12 +210,15 @@ impl<F: Field> Sheaf<F> {
         &part.lifts.as_slice()[place]
     }
 
-    /// The map from the stalk at an edge's lower end to the edge's module, in degree `d`: a row for each coordinate there.
+    /// The matrix, in degree `d`, of the module map from the stalk at an edge's lower end to the edge's module: a row for each
+    /// coordinate there.
     pub fn lower_rows(&self, e: u32, d: u32) -> &SparseRows<F>
         requires edge { e < edge_count self.now.graph }
         requires there { IsThere self.now (lower self.now.graph e) }
         requires degree { d ≤ self.now.degree }
         ensures matrix { SameMatrix (matrix_of_entries result.now) (lower_matrix self.now.graph (sheaf_of self.now) d e) }
+        ensures map { let G = self.now.graph in let s = sheaf_of self.now in
+            SameMatrix (matrix_of_entries result.now) (matrix_of_map G.prime (stalk_module G s (lower G e)) (edge_module G s e) (from_lower G s e) d) }
         ensures numbers { NumbersBelow self.now.graph.prime (matrix_of_entries result.now) }
         ensures state { IsState self.now }
     {
@@ -226,6 +232,8 @@ impl<F: Field> Sheaf<F> {
         requires there { IsThere self.now (lower self.now.graph e) }
         requires degree { d ≤ self.now.degree }
         ensures matrix { SameMatrix (matrix_of_entries result.now) (upper_matrix self.now.graph (sheaf_of self.now) d e) }
+        ensures map { let G = self.now.graph in let s = sheaf_of self.now in
+            SameMatrix (matrix_of_entries result.now) (matrix_of_map G.prime (stalk_module G s (upper G e)) (edge_module G s e) (from_upper G s e) d) }
         ensures numbers { NumbersBelow self.now.graph.prime (matrix_of_entries result.now) }
         ensures state { IsState self.now }
     {

@@ -4,10 +4,10 @@ ghost use Rattle.bmp_graph.specs.Graph.{Graph, vertex_count};
 ghost use Rattle.bmp_sheaf.specs.Coordinates.{stalk_count, boundary_count};
 ghost use Rattle.bmp_sheaf.specs.States.{SheafState, stalk_of, IsThere, sheaf_of, IsRoom};
 
-use crate::counts;
 use crate::sheaf::Sheaf;
 use bmp_field::Field;
 use bmp_linear::Rows;
+use bmp_module::{Free, GradedModule};
 
 impl<F: Field> Sheaf<F> {
     /// How many coordinates an element of degree `d` of the stalk at a vertex has.
@@ -16,7 +16,7 @@ impl<F: Field> Sheaf<F> {
         requires degree { d ≤ self.now.degree }
         ensures { result ≡ stalk_count self.now.graph.rank (stalk_of self.now x).degrees d }
     {
-        counts::stalk_len(self.stalk(x), d)
+        <Free as GradedModule<F>>::dim(self.stalk(x), d)
     }
 
     /// How many coordinates a boundary of degree `d` at a vertex has: those on all edges going up from it.

@@ -1,13 +1,19 @@
-use Rattle.std.proofs.Common.{◌≡◌, ◌+◌, ◌-◌, ◌*◌, ◌<◌, ◌≤◌, length, refl, subst, ap, ◌∙◌, arith, rules}
+use Rattle.std.proofs.Common.{◌≡◌, ℕ, ◌+◌, ◌-◌, ◌*◌, ◌<◌, ◌≤◌, List, length, take, drop, get_or, refl, sym, subst, ap, ◌∙◌, arith, rules}
+use Rattle.std.specs.List.{All}
+use Rattle.std.proofs.lemmas.Grind.{get_or_default_zero}
+use Rattle.std.proofs.lemmas.List.Elements.{All-take, All-drop}
 use Rattle.std.specs.Prelude.{slice_range}
+use Rattle.bmp_linear.specs.declared.vector.Entry.{Entry}
+use Rattle.bmp_linear.specs.SparseVectors.{ValuesBelow}
 use Rattle.bmp_linear.specs.RowTables.{matrix_of_entries}
 use Rattle.bmp_module.specs.FreeModules.{degrees_of}
-use Rattle.bmp_graph.specs.Graph.{IsUpRange, edge_count, lower, upper}
-use Rattle.bmp_sheaf.specs.Written.{IsUpPlace}
+use Rattle.bmp_module.specs.QuotientModules.{free_of}
+use Rattle.bmp_graph.specs.Graph.{IsUpRange, upper}
 use Rattle.bmp_sheaf.specs.States.{stalk_of, with_stalk}
-use Rattle.bmp_sheaf.proofs.UpEdges.{up_place}
+use Rattle.bmp_sheaf.proofs.UpEdges.{GoesUp, goes_up}
 use Rattle.bmp_sheaf.proofs.StalkTableLemmas.{edge_lifts_inside}
 use Rattle.bmp_sheaf.proofs.NewMaps.{MapsUpBefore, before_edge, up_none, up_starts, up_more, up_ends, lower_all, upper_all, new_lower, new_upper, own_fit}
+use Rattle.bmp_sheaf.proofs.NewModules.{ModulesBefore, module_is, modules_none, modules_more, modules_all}
 use Rattle.bmp_sheaf.proofs.sheaf.Sheaf.maps_up.Goals as goal
 
 pub offset_bounds-lifts-start : goal.offset_bounds-lifts-start
@@ -15,12 +21,9 @@ offset_bounds-lifts-start g c =
     let s = c.args.self.now in
     let degrees = degrees_of c.args.from.now in
     let lifts = c.args.lifts.now in
-    let range : IsUpRange s.graph c.args.x c.up-first.result.0 c.up-first.result.1 = subst (λ H. IsUpRange H c.args.x c.up-first.result.0 c.up-first.result.1) c.graph.ensures.graph c.up-first.ensures.range in
-    let is_edge : c.loop-e.e < edge_count s.graph = omega (arith, c.loop-e-test.true, range.within) in
-    let starts : lower s.graph c.loop-e.e ≡ c.args.x = range.inside c.loop-e.e c.loop-e.auto.e c.loop-e-test.true in
-    let at : IsUpPlace s.graph c.args.x c.loop-e.e (c.loop-e.e - c.up-first.result.0) = up_place s.graph c.args.x c.up-first.result.0 c.up-first.result.1 range c.loop-e.e is_edge starts in
+    let up : GoesUp s.graph c.args.x c.loop-e.e (c.loop-e.e - c.up-first.result.0) = goes_up s.graph _ c.args.x c.up-first.result.0 c.up-first.result.1 c.loop-e.e c.graph.ensures.graph c.up-first.ensures.range c.loop-e.auto.e c.loop-e-test.true in
     let inside : (c.loop-e.e - c.up-first.result.0) * c.generators-generators.result + c.generators-generators.result ≤ length lifts =
-    rw c.generators-generators.ensures (edge_lifts_inside s c.args.x degrees lifts c.requires.stalk c.loop-e.e (c.loop-e.e - c.up-first.result.0) at) in
+    rw c.generators-generators.ensures (edge_lifts_inside s c.args.x degrees lifts c.requires.stalk c.loop-e.e (c.loop-e.e - c.up-first.result.0) up.at) in
     omega (arith, inside)
 
 pub slice_bounds-own-end : goal.slice_bounds-own-end
@@ -28,85 +31,115 @@ slice_bounds-own-end g c =
     let s = c.args.self.now in
     let degrees = degrees_of c.args.from.now in
     let lifts = c.args.lifts.now in
-    let range : IsUpRange s.graph c.args.x c.up-first.result.0 c.up-first.result.1 = subst (λ H. IsUpRange H c.args.x c.up-first.result.0 c.up-first.result.1) c.graph.ensures.graph c.up-first.ensures.range in
-    let is_edge : c.loop-e.e < edge_count s.graph = omega (arith, c.loop-e-test.true, range.within) in
-    let starts : lower s.graph c.loop-e.e ≡ c.args.x = range.inside c.loop-e.e c.loop-e.auto.e c.loop-e-test.true in
-    let at : IsUpPlace s.graph c.args.x c.loop-e.e (c.loop-e.e - c.up-first.result.0) = up_place s.graph c.args.x c.up-first.result.0 c.up-first.result.1 range c.loop-e.e is_edge starts in
+    let up : GoesUp s.graph c.args.x c.loop-e.e (c.loop-e.e - c.up-first.result.0) = goes_up s.graph _ c.args.x c.up-first.result.0 c.up-first.result.1 c.loop-e.e c.graph.ensures.graph c.up-first.ensures.range c.loop-e.auto.e c.loop-e-test.true in
     let inside : (c.loop-e.e - c.up-first.result.0) * c.generators-generators.result + c.generators-generators.result ≤ length lifts =
-    rw c.generators-generators.ensures (edge_lifts_inside s c.args.x degrees lifts c.requires.stalk c.loop-e.e (c.loop-e.e - c.up-first.result.0) at) in
+    rw c.generators-generators.ensures (edge_lifts_inside s c.args.x degrees lifts c.requires.stalk c.loop-e.e (c.loop-e.e - c.up-first.result.0) up.at) in
     search rules
 
 pub loop-e-init : goal.loop-e-init
 loop-e-init g c =
     let s = with_stalk c.args.self.now (record { degrees = degrees_of c.args.from.now; lifts = c.args.lifts.now }) in
-    rw (c.new-lower.ensures.items, c.new-upper.ensures.items) (up_none s c.up-first.result.0)
+    rw (c.in_ok-modules.ensures.items, c.new-lower.ensures.items, c.new-upper.ensures.items) (up_none s c.up-first.result.0, modules_none c.args.self.now c.up-first.result.0)
 
 pub loop-d-init : goal.loop-d-init
 loop-d-init g c =
     let s = with_stalk c.args.self.now (record { degrees = degrees_of c.args.from.now; lifts = c.args.lifts.now }) in
-    up_starts s c.up-first.result.0 c.loop-e.e c.loop-e.lower.items c.loop-e.upper.items c.loop-e.invariant
+    up_starts s c.up-first.result.0 c.loop-e.e c.loop-e.lower.items c.loop-e.upper.items c.loop-e.invariant.0
 
-pub edge_maps-requires-clause-fit : goal.edge_maps-requires-clause-fit
-edge_maps-requires-clause-fit g c =
+pub edge_images-requires-clause-fit : goal.edge_images-requires-clause-fit
+edge_images-requires-clause-fit g c =
     let s = c.args.self.now in
     let degrees = degrees_of c.args.from.now in
     let lifts = c.args.lifts.now in
-    let range : IsUpRange s.graph c.args.x c.up-first.result.0 c.up-first.result.1 = subst (λ H. IsUpRange H c.args.x c.up-first.result.0 c.up-first.result.1) c.graph.ensures.graph c.up-first.ensures.range in
-    let is_edge : c.loop-e.e < edge_count s.graph = omega (arith, c.loop-e-test.true, range.within) in
-    let starts : lower s.graph c.loop-e.e ≡ c.args.x = range.inside c.loop-e.e c.loop-e.auto.e c.loop-e-test.true in
-    let at : IsUpPlace s.graph c.args.x c.loop-e.e (c.loop-e.e - c.up-first.result.0) = up_place s.graph c.args.x c.up-first.result.0 c.up-first.result.1 range c.loop-e.e is_edge starts in
+    let up : GoesUp s.graph c.args.x c.loop-e.e (c.loop-e.e - c.up-first.result.0) = goes_up s.graph _ c.args.x c.up-first.result.0 c.up-first.result.1 c.loop-e.e c.graph.ensures.graph c.up-first.ensures.range c.loop-e.auto.e c.loop-e-test.true in
     let start = (c.loop-e.e - c.up-first.result.0) * c.generators-generators.result in
     let own = slice_range lifts start (start + c.generators-generators.result) in
-    let into : degrees_of c.stalk-into.result.now ≡ (stalk_of s (upper s.graph c.loop-e.e)).degrees =
-    c.stalk-into.ensures.degrees ∙ ap (λ y. (stalk_of s y).degrees) (c.edge.ensures.upper ∙ ap (λ G. upper G c.loop-e.e) c.graph-in-loop-e.ensures.graph) in
-    own_fit s c.requires.left c.graph.ensures.state.over.is_graph c.args.x c.requires.next degrees lifts c.loop-e.e (c.loop-e.e - c.up-first.result.0) is_edge at starts (degrees_of c.stalk-into.result.now) into
-    c.generators-generators.result own c.generators-generators.ensures refl _ c.stalk-into.ensures.rank c.requires.stalk
+    let into : degrees_of (free_of c.in_ok-module.module) ≡ (stalk_of s (upper s.graph c.loop-e.e)).degrees =
+    c.in_ok-module.ensures.degrees ∙ c.stalk-into.ensures.degrees ∙ ap (λ y. (stalk_of s y).degrees) (c.edge.ensures.upper ∙ ap (λ G. upper G c.loop-e.e) c.graph-in-loop-e.ensures.graph) in
+    let ranks = c.in_ok-module.ensures.rank ∙ c.stalk-into.ensures.rank in
+    own_fit s c.requires.left c.graph.ensures.state.over.is_graph c.args.x c.requires.next degrees lifts c.loop-e.e (c.loop-e.e - c.up-first.result.0) up.is_edge up.at up.starts (degrees_of (free_of c.in_ok-module.module)) into
+    c.generators-generators.result own c.generators-generators.ensures refl _ ranks c.requires.stalk
 
 pub loop-d-preserved : goal.loop-d-preserved
 loop-d-preserved g c =
     let s = c.args.self.now in
     let degrees = degrees_of c.args.from.now in
     let lifts = c.args.lifts.now in
-    let range : IsUpRange s.graph c.args.x c.up-first.result.0 c.up-first.result.1 = subst (λ H. IsUpRange H c.args.x c.up-first.result.0 c.up-first.result.1) c.graph.ensures.graph c.up-first.ensures.range in
-    let is_edge : c.loop-e.e < edge_count s.graph = omega (arith, c.loop-e-test.true, range.within) in
-    let starts : lower s.graph c.loop-e.e ≡ c.args.x = range.inside c.loop-e.e c.loop-e.auto.e c.loop-e-test.true in
-    let at : IsUpPlace s.graph c.args.x c.loop-e.e (c.loop-e.e - c.up-first.result.0) = up_place s.graph c.args.x c.up-first.result.0 c.up-first.result.1 range c.loop-e.e is_edge starts in
+    let up : GoesUp s.graph c.args.x c.loop-e.e (c.loop-e.e - c.up-first.result.0) = goes_up s.graph _ c.args.x c.up-first.result.0 c.up-first.result.1 c.loop-e.e c.graph.ensures.graph c.up-first.ensures.range c.loop-e.auto.e c.loop-e-test.true in
     let start = (c.loop-e.e - c.up-first.result.0) * c.generators-generators.result in
     let own = slice_range lifts start (start + c.generators-generators.result) in
-    let into : degrees_of c.stalk-into.result.now ≡ (stalk_of s (upper s.graph c.loop-e.e)).degrees =
-    c.stalk-into.ensures.degrees ∙ ap (λ y. (stalk_of s y).degrees) (c.edge.ensures.upper ∙ ap (λ G. upper G c.loop-e.e) c.graph-in-loop-e.ensures.graph) in
+    let into : degrees_of (free_of c.in_ok-module.module) ≡ (stalk_of s (upper s.graph c.loop-e.e)).degrees =
+    c.in_ok-module.ensures.degrees ∙ c.stalk-into.ensures.degrees ∙ ap (λ y. (stalk_of s y).degrees) (c.edge.ensures.upper ∙ ap (λ G. upper G c.loop-e.e) c.graph-in-loop-e.ensures.graph) in
+    let ranks = c.in_ok-module.ensures.rank ∙ c.stalk-into.ensures.rank in
     let t = with_stalk s (record { degrees = degrees; lifts = lifts }) in
-    let below = new_lower s c.requires.left c.graph.ensures.state.over.is_graph c.args.x c.requires.next degrees lifts c.loop-e.e (c.loop-e.e - c.up-first.result.0) is_edge at starts (degrees_of c.stalk-into.result.now) into
-    c.generators-generators.result own c.generators-generators.ensures refl c.loop-d.d _ c.table.result.now c.table.ensures c.stalk-into.ensures.rank (matrix_of_entries c.in_ok-maps.maps.lower) c.in_ok-maps.ensures.lower in
-    let above = new_upper s c.requires.left c.graph.ensures.state.over.is_graph c.args.x c.requires.next degrees lifts c.loop-e.e (c.loop-e.e - c.up-first.result.0) is_edge at starts (degrees_of c.stalk-into.result.now) into
-    c.generators-generators.result own c.generators-generators.ensures refl c.loop-d.d _ c.table.result.now c.table.ensures c.stalk-into.ensures.rank (matrix_of_entries c.in_ok-maps.maps.upper) c.in_ok-maps.ensures.upper in
+    let below = new_lower s c.requires.left c.graph.ensures.state.over.is_graph c.args.x c.requires.next degrees lifts c.loop-e.e (c.loop-e.e - c.up-first.result.0) up.is_edge up.at up.starts (degrees_of (free_of c.in_ok-module.module)) into
+    c.generators-generators.result own c.generators-generators.ensures refl c.loop-d.d _ c.table-table.result.now c.table-table.ensures ranks (matrix_of_entries c.in_ok-maps.maps.lower) c.in_ok-maps.ensures.lower in
+    let above = new_upper s c.requires.left c.graph.ensures.state.over.is_graph c.args.x c.requires.next degrees lifts c.loop-e.e (c.loop-e.e - c.up-first.result.0) up.is_edge up.at up.starts (degrees_of (free_of c.in_ok-module.module)) into
+    c.generators-generators.result own c.generators-generators.ensures refl c.loop-d.d _ c.table-table.result.now c.table-table.ensures ranks (matrix_of_entries c.in_ok-maps.maps.upper) c.in_ok-maps.ensures.upper in
     rw (c.in_ok-push.ensures.items, c.in_ok-push-2.ensures.items)
     (up_more t c.up-first.result.0 c.loop-e.e c.loop-d.d c.loop-d.lower.items c.loop-d.upper.items c.in_ok-maps.maps.lower c.in_ok-maps.maps.upper c.loop-e.auto.e (omega (arith, c.loop-d-test.true, c.degree-d-end.ensures.degree))
     below above c.loop-d.invariant)
 
 pub loop-e-preserved : goal.loop-e-preserved
 loop-e-preserved g c =
-    let s = with_stalk c.args.self.now (record { degrees = degrees_of c.args.from.now; lifts = c.args.lifts.now }) in
-    up_ends s c.up-first.result.0 c.loop-e.e c.loop-d.d c.loop-d.lower.items c.loop-d.upper.items c.loop-e.auto.e (omega (arith, c.loop-d.auto.d-end, c.loop-d-test.false, c.degree-d-end.ensures.degree)) c.loop-d.invariant
+    let s = c.args.self.now in
+    let degrees = degrees_of c.args.from.now in
+    let lifts = c.args.lifts.now in
+    let up : GoesUp s.graph c.args.x c.loop-e.e (c.loop-e.e - c.up-first.result.0) = goes_up s.graph _ c.args.x c.up-first.result.0 c.up-first.result.1 c.loop-e.e c.graph.ensures.graph c.up-first.ensures.range c.loop-e.auto.e c.loop-e-test.true in
+    let start = (c.loop-e.e - c.up-first.result.0) * c.generators-generators.result in
+    let own = slice_range lifts start (start + c.generators-generators.result) in
+    let into : degrees_of (free_of c.in_ok-module.module) ≡ (stalk_of s (upper s.graph c.loop-e.e)).degrees =
+    c.in_ok-module.ensures.degrees ∙ c.stalk-into.ensures.degrees ∙ ap (λ y. (stalk_of s y).degrees) (c.edge.ensures.upper ∙ ap (λ G. upper G c.loop-e.e) c.graph-in-loop-e.ensures.graph) in
+    let ranks = c.in_ok-module.ensures.rank ∙ c.stalk-into.ensures.rank in
+    let t = with_stalk s (record { degrees = degrees; lifts = lifts }) in
+    rw c.in_ok-push-3.ensures.items (
+      up_ends t c.up-first.result.0 c.loop-e.e c.loop-d.d c.loop-d.lower.items c.loop-d.upper.items c.loop-e.auto.e (omega (arith, c.loop-d.auto.d-end, c.loop-d-test.false, c.degree-d-end.ensures.degree)) c.loop-d.invariant,
+      modules_more s c.up-first.result.0 c.loop-e.e c.loop-e.modules.items c.in_ok-module.module c.loop-e.auto.e c.loop-e.invariant.1
+          (module_is s s.degree c.loop-e.e c.table-table.result.now c.in_ok-module.module c.table-table.ensures ranks into (c.in_ok-module.ensures.label ∙ c.label.ensures)),
+    )
+
+pub returns-clause-modules : goal.returns-clause-modules
+returns-clause-modules g c =
+    let s = c.args.self.now in
+    let range : IsUpRange s.graph c.args.x c.up-first.result.0 c.up-first.result.1 = subst (λ H. IsUpRange H c.args.x c.up-first.result.0 c.up-first.result.1) c.graph.ensures.graph c.up-first.ensures.range in
+    let last : c.loop-e.e ≡ c.up-first.result.1 = omega (arith, range.ordered, c.loop-e.auto.e-end, c.loop-e-test.false) in
+    modules_all s c.args.x c.up-first.result.0 c.up-first.result.1 c.loop-e.modules.items range (subst (λ e. ModulesBefore s c.up-first.result.0 e c.loop-e.modules.items) last c.loop-e.invariant.1)
 
 pub returns-clause-lower : goal.returns-clause-lower
 returns-clause-lower g c =
     let s = c.args.self.now in
-    let degrees = degrees_of c.args.from.now in
-    let lifts = c.args.lifts.now in
     let range : IsUpRange s.graph c.args.x c.up-first.result.0 c.up-first.result.1 = subst (λ H. IsUpRange H c.args.x c.up-first.result.0 c.up-first.result.1) c.graph.ensures.graph c.up-first.ensures.range in
-    let t = with_stalk s (record { degrees = degrees; lifts = lifts }) in
+    let t = with_stalk s (record { degrees = degrees_of c.args.from.now; lifts = c.args.lifts.now }) in
     let last : c.loop-e.e ≡ c.up-first.result.1 = omega (arith, range.ordered, c.loop-e.auto.e-end, c.loop-e-test.false) in
     lower_all t c.up-first.result.0 c.args.x c.up-first.result.1 range c.loop-e.lower.items c.loop-e.upper.items
-    (subst (λ e. MapsUpBefore t c.up-first.result.0 (before_edge t c.up-first.result.0 e) c.loop-e.lower.items c.loop-e.upper.items) last c.loop-e.invariant)
+    (subst (λ e. MapsUpBefore t c.up-first.result.0 (before_edge t c.up-first.result.0 e) c.loop-e.lower.items c.loop-e.upper.items) last c.loop-e.invariant.0)
 
 pub returns-clause-upper : goal.returns-clause-upper
 returns-clause-upper g c =
     let s = c.args.self.now in
-    let degrees = degrees_of c.args.from.now in
-    let lifts = c.args.lifts.now in
     let range : IsUpRange s.graph c.args.x c.up-first.result.0 c.up-first.result.1 = subst (λ H. IsUpRange H c.args.x c.up-first.result.0 c.up-first.result.1) c.graph.ensures.graph c.up-first.ensures.range in
-    let t = with_stalk s (record { degrees = degrees; lifts = lifts }) in
+    let t = with_stalk s (record { degrees = degrees_of c.args.from.now; lifts = c.args.lifts.now }) in
     let last : c.loop-e.e ≡ c.up-first.result.1 = omega (arith, range.ordered, c.loop-e.auto.e-end, c.loop-e-test.false) in
     upper_all t c.up-first.result.0 c.args.x c.up-first.result.1 range c.loop-e.lower.items c.loop-e.upper.items
-    (subst (λ e. MapsUpBefore t c.up-first.result.0 (before_edge t c.up-first.result.0 e) c.loop-e.lower.items c.loop-e.upper.items) last c.loop-e.invariant)
+    (subst (λ e. MapsUpBefore t c.up-first.result.0 (before_edge t c.up-first.result.0 e) c.loop-e.lower.items c.loop-e.upper.items) last c.loop-e.invariant.0)
+
+-- degrees within the sheaf's bound are at most 6
+low_degrees : (xs : List ℕ) (most : ℕ) → most ≤ 6 → ((i : ℕ) → i < length xs → get_or xs i 0 ≤ most) → All (λ a. a ≤ 6) xs
+low_degrees xs most small bound k d below = let here : get_or xs k 0 ≤ most = bound k below in omega (arith, get_or_default_zero xs k d below, here)
+
+pub edge_images-requires-clause-low : goal.edge_images-requires-clause-low
+edge_images-requires-clause-low g c = low_degrees (degrees_of c.args.from.now) c.args.self.now.degree c.graph.ensures.state.bound c.requires.stalk.bound
+
+pub edge_images-requires-clause-high : goal.edge_images-requires-clause-high
+edge_images-requires-clause-high g c =
+    let bound = c.stalk-into.ensures.stalk.bound in
+    rw (c.in_ok-module.ensures.degrees, c.stalk-into.ensures.degrees) (low_degrees _ c.args.self.now.degree c.graph.ensures.state.bound bound)
+
+pub edge_images-requires-clause-values : goal.edge_images-requires-clause-values
+edge_images-requires-clause-values g c =
+    let lifts = c.args.lifts.now in
+    let start = (c.loop-e.e - c.up-first.result.0) * c.generators-generators.result in
+    let many = start + c.generators-generators.result - start in
+    let size : g.F.Field.size c.field.result.now ≡ c.args.self.now.graph.prime = ap g.F.Field.size c.field.ensures.field ∙ c.field.ensures.size in
+    subst (λ p. All (λ (v : List Entry). ValuesBelow v p) (take many (drop start lifts))) (sym size)
+    (All-take (λ (v : List Entry). ValuesBelow v c.args.self.now.graph.prime) many (drop start lifts) (All-drop (λ (v : List Entry). ValuesBelow v c.args.self.now.graph.prime) start lifts c.requires.values))

@@ -18,4 +18,4 @@ invariant_of-result g c =
       few = omega (arith, c.vertices.ensures.count, c.vertices.ensures.range);
       bound = c.requires.degree;
     })
-    c.in_ok-tables.ensures)
+    c.in_ok-tables.ensures.tables)

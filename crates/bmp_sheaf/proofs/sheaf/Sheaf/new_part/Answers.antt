@@ -23,4 +23,4 @@ returns-clause-table g c =
     let lowers : List (List Entry) → Type 0 = λ vs. let t = with_stalk s (record { degrees = degrees_of c.in_ok-module.module; lifts = vs }) in AreMapsUp t c.args.x (lower_matrix t.graph (sheaf_of t)) c.in_ok-maps.maps.lower.items in
     let uppers : List (List Entry) → Type 0 = λ vs. let t = with_stalk s (record { degrees = degrees_of c.in_ok-module.module; lifts = vs }) in AreMapsUp t c.args.x (upper_matrix t.graph (sheaf_of t)) c.in_ok-maps.maps.upper.items in
     new_table s c.requires.left c.graph.ensures.state.over.is_graph c.args.x _ c.requires.next (made.rank ∙ c.rank.ensures.value ∙ ap (λ G. G.rank) c.graph.ensures.graph) few
-    stalk values c.in_ok-modules_up.ensures (subst lowers (sym lifts) maps.lower) (subst uppers (sym lifts) maps.upper)
+    stalk values maps.modules (subst lowers (sym lifts) maps.lower) (subst uppers (sym lifts) maps.upper)

@@ -1,6 +1,0 @@
-use Rattle.bmp_sheaf.proofs.NormalColumns.{AreNumbers}
-use Rattle.bmp_sheaf.proofs.normal_table.column.Given as goal
-
--- the numbers of the values so far
-abbrev pub invariant-loop-value : goal.invariant-loop-value
-invariant-loop-value g l = AreNumbers (g.F.Field.num l.f) l.value-items l.value-index l.numbers.items
