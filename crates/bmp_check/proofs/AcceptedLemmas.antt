@@ -1,14 +1,9 @@
--- What an accepted job says of its graph: numbers modulo its prime are a field, there are at most six variables, and the last vertex
--- alone has the greatest length.
+-- What an accepted certificate writes can be checked on the graph of its job.
 use Rattle.std.proofs.Common.{◌≡◌, ℕ, zero, suc, ◌+◌, ◌-◌, ◌<◌, ◌≤◌, Bool, true, false, IsTrue, List, [], ◌∷◌, ◌++◌, length, get_or, refl, sym, ap, subst, ◌∙◌, inl, inr, arith, true≢false}
-use Rattle.std.specs.Prelude.{◌||◌, ◌==◌}
-use Rattle.std.specs.List.{list_any}
-use Rattle.std.proofs.lemmas.Bool.{or_cases}
 use Rattle.std.proofs.lemmas.List.{length-map, get_or-map}
 use Rattle.bmp_math.specs.Lists.{Member, HasEachOnce}
 use Rattle.bmp_math.proofs.ListLemmas.{member_at}
-use Rattle.bmp_field.specs.Primes.{is_listed, is_taken}
-use Rattle.bmp_field.specs.PrimeLaws.{listed_range, listed_inverse}
+use Rattle.bmp_field.specs.Primes.{is_listed}
 use Rattle.bmp_roots.specs.RootPairs.{CartanMatrix, Vector}
 use Rattle.bmp_roots.specs.RootSystems.{matrix_of, positive_roots_of}
 use Rattle.bmp_weyl.specs.Words.{IsRootSystem}
@@ -18,33 +13,12 @@ use Rattle.bmp_weyl.proofs.CallLemmas.{root_system}
 use Rattle.bmp_weyl.proofs.ElementLemmas.{same_element, element_length-product}
 use Rattle.bmp_interval.specs.Intervals.{IsInterval}
 use Rattle.bmp_interval.proofs.IntervalLemmas.{only_longest}
-use Rattle.bmp_graded.specs.NormalForms.{HasInverses}
 use Rattle.bmp_graph.specs.Graph.{Graph, vertex_count, length_at}
-use Rattle.bmp_sheaf.specs.Fields.{IsOverField}
-use Rattle.bmp_cover.specs.BradenMacPherson.{IsTop}
+use Rattle.bmp_cover.specs.BradenMacPherson.{IsTopVertex}
 use Rattle.bmp_cert.specs.declared.cert.Cert.{Cert}
-use Rattle.bmp_check.specs.Accepted.{IsAccepted, top}
-
--- ---- the prime
-
-any_of_more : (test : ℕ → Bool) (xs ys : List ℕ) → list_any test xs ≡ true → list_any test (xs ++ ys) ≡ true
-any_of_more test [] ys h = absurd (true≢false (sym h))
-any_of_more test (x ∷ xs) ys h = elim (or_cases (test x) (list_any test xs) h) [
-  | inl here ↦ or_here (test x) (list_any test (xs ++ ys)) here
-  | inr later ↦ or_later (test x) (list_any test (xs ++ ys)) (any_of_more test xs ys later)
-]
-  where
-    or_here : (a b : Bool) → a ≡ true → (a || b) ≡ true
-    or_here true b h = refl
-    or_here false b h = absurd (true≢false (sym h))
-
-    or_later : (a b : Bool) → b ≡ true → (a || b) ≡ true
-    or_later true b h = refl
-    or_later false b h = h
-
--- each taken prime is a listed one
-taken_is_listed : (p : ℕ) → IsTrue (is_taken p) → IsTrue (is_listed p)
-taken_is_listed p taken = any_of_more (λ q. p == q) (2 ∷ 3 ∷ 5 ∷ 7 ∷ 11 ∷ 13 ∷ []) (17 ∷ 19 ∷ 23 ∷ 29 ∷ 31 ∷ 37 ∷ 41 ∷ 43 ∷ 47 ∷ 53 ∷ 59 ∷ 61 ∷ []) taken
+use Rattle.bmp_cert.specs.CertGrammar.{HavePartLines}
+use Rattle.bmp_cert.specs.Counts.{written_by}
+use Rattle.bmp_check.specs.Accepted.{IsAccepted, IsCheckable, AcceptedIsCheckable, top_vertex}
 
 -- ---- the greatest element of an interval
 
@@ -72,40 +46,52 @@ module _ (m : CartanMatrix) (roots : List Vector) (system : IsRootSystem m roots
 -- ---- the graph
 
 module _ (G : Graph) (c : Cert) (accepted : IsAccepted G c) where
-  listed : IsTrue (is_listed c.job.prime)
-  listed = taken_is_listed c.job.prime accepted.rules.0.prime
-
-  pub over_field : IsOverField G
-  over_field = record {
-    is_graph = accepted.graph.graph;
-    two = subst (λ p. 2 ≤ p) (sym accepted.graph.bruhat.prime) (listed_range c.job.prime listed).0;
-    inverses = subst HasInverses (sym accepted.graph.bruhat.prime) (listed_inverse c.job.prime listed);
-  }
-
-  pub few_variables : G.rank ≤ 6
-  few_variables = let most = accepted.graph.roots.form.at_most_six in omega (arith, most, accepted.graph.bruhat.rank)
+  prime_is : G.prime ≡ c.job.prime
+  prime_is = accepted.graph.bruhat.prime
 
   length_is : (x : ℕ) (d : Elem) → x < length accepted.graph.vertices
       → length_at G x ≡ element_length (positive_roots_of accepted.graph.roots) (get_or accepted.graph.vertices x d)
   length_is x d within =
       ap (λ (ls : List ℕ). get_or ls x 0) accepted.graph.bruhat.lengths ∙ get_or-map (element_length (positive_roots_of accepted.graph.roots)) accepted.graph.vertices x d 0 within
 
-  pub last_is_top : IsTop G (top G)
+  count : vertex_count G ≡ length accepted.graph.vertices
+  count = ap length accepted.graph.bruhat.lengths ∙ length-map accepted.graph.vertices (element_length (positive_roots_of accepted.graph.roots))
+
+  last_is_top : IsTopVertex G (top_vertex G)
   last_is_top =
-      let count : vertex_count G ≡ length accepted.graph.vertices =
-      ap length accepted.graph.bruhat.lengths ∙ length-map accepted.graph.vertices (element_length (positive_roots_of accepted.graph.roots)) in
+      let counted : vertex_count G ≡ length accepted.graph.vertices = count in
       let some : 0 < vertex_count G = accepted.graph.graph.has_vertex in
       let none : Elem = record { rank = 0; entries = [] } in
       record {
         vertex = omega arith;
         longest = λ x within other.
             let low = length_is x none (omega arith) in
-            let high : length_at G (top G) ≡ element_length (positive_roots_of accepted.graph.roots) (get_or accepted.graph.vertices (length accepted.graph.vertices - 1) none) =
+            let high : length_at G (top_vertex G) ≡ element_length (positive_roots_of accepted.graph.roots) (get_or accepted.graph.vertices (length accepted.graph.vertices - 1) none) =
             ap (λ n. length_at G (n - 1)) count ∙ length_is (length accepted.graph.vertices - 1) none (omega arith) in
             omega (
               arith,
               low,
               high,
-              last_is_longest (matrix_of accepted.graph.roots) (positive_roots_of accepted.graph.roots) (root_system accepted.graph.roots) (word_of c.job.word) accepted.graph.vertices accepted.graph.interval x none (omega arith),
+              last_is_longest (matrix_of accepted.graph.roots) (positive_roots_of accepted.graph.roots) (root_system accepted.graph.roots) (word_of c.job.word) accepted.graph.vertices accepted.graph.interval.interval x none (omega arith),
             );
       }
+
+  checkable : IsCheckable G c.version (written_by c)
+  checkable =
+      let form = accepted.graph.roots.form in
+      let rank = accepted.graph.bruhat.rank in
+      let few = accepted.graph.interval.interval.few in
+      record {
+        version = accepted.formed.version;
+        graph = accepted.graph.graph;
+        prime = subst (λ p. IsTrue (is_listed p)) (sym prime_is) accepted.rules.0.prime;
+        some_variables = let least = form.at_least_one in omega (arith, least, rank);
+        few_variables = let most = form.at_most_six in omega (arith, most, rank);
+        few_vertices = omega (arith, few, count);
+        last_is_top = last_is_top;
+        degree = accepted.rules.0.degree;
+        formed = subst (λ p. HavePartLines (p - 1) c.job.degree c.vertices) (sym prime_is) accepted.formed.vertices;
+      }
+
+pub accepted_is_checkable : AcceptedIsCheckable
+accepted_is_checkable G c accepted = checkable G c accepted

@@ -3,10 +3,10 @@ use Rattle.std.proofs.Common.{◌≡◌, ℕ, ◌+◌, ◌-◌, ◌*◌, ◌/◌
 use Rattle.std.proofs.lemmas.Bool.{cases_eq, cases_lt}
 use Rattle.std.proofs.lemmas.Nat.{div-mul-add, mod-mul-add, div-add-mod', div_below, mod_below}
 use Rattle.bmp_graph.specs.Graph.{Graph, vertex_count}
-use Rattle.bmp_cert.specs.declared.cert.Cert.{Cert}
+use Rattle.bmp_cert.specs.Counts.{Written}
 use Rattle.bmp_cert.proofs.CountLemmas.{place_below}
 use Rattle.bmp_check.specs.BlockOrder.{block_count, block_vertex, block_degree, HasNumber, AreNumbered}
-use Rattle.bmp_check.specs.Verdicts.{IsBlock, BlockIsBefore}
+use Rattle.bmp_check.specs.Verdicts.{HasBlock, BlockIsBefore}
 
 module _ (n D : ℕ) where
   row_below : (i : ℕ) → i < block_count n D → i / (D + 1) < n - 1
@@ -85,17 +85,17 @@ module _ (P : ℕ → ℕ → Type 0) (n D : ℕ) where
 
 -- ---- the loop over the blocks of a certificate: x and d are those of the block number i, and P says that a block passes
 
-module _ (G : Graph) (c : Cert) (P : ℕ → ℕ → Type 0) (n D i : ℕ) (vertices : n ≡ vertex_count G) (bound : D ≡ c.job.degree) (holds : HoldsBefore P n D i) where
-  pub blocks_all : block_count n D ≤ i → (x d : ℕ) → IsBlock G c x d → P x d
+module _ (G : Graph) (c : Written) (P : ℕ → ℕ → Type 0) (n D i : ℕ) (vertices : n ≡ vertex_count G) (bound : D ≡ c.degree) (holds : HoldsBefore P n D i) where
+  pub blocks_all : block_count n D ≤ i → (x d : ℕ) → HasBlock G c x d → P x d
   blocks_all past x d block = holds_of_all P n D (λ k below. holds k (omega arith)) x d (omega (arith, block.0, vertices)) (omega (arith, block.1, bound))
 
   module _ (x d : ℕ) (below : i < block_count n D) (vertex : x ≡ block_vertex n D i) (degree : d ≡ block_degree D i) where
-    pub blocks_here : IsBlock G c x d
+    pub blocks_here : HasBlock G c x d
     blocks_here =
         let is_block = (blocks_numbered n D).is_block i below in
         (omega (arith, vertex, is_block.0, vertices), omega (arith, degree, is_block.1, bound))
 
-    pub blocks_earlier : (y e : ℕ) → IsBlock G c y e → BlockIsBefore y e x d → P y e
+    pub blocks_earlier : (y e : ℕ) → HasBlock G c y e → BlockIsBefore y e x d → P y e
     blocks_earlier y e block before =
         holds_of_earlier P n D i below holds y e (omega (arith, block.0, vertices)) (omega (arith, block.1, bound))
         (subst (λ z. BlockIsBefore y e z (block_degree D i)) vertex (subst (λ z. BlockIsBefore y e x z) degree before))

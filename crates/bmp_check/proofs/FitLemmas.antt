@@ -9,14 +9,14 @@ use Rattle.bmp_text.specs.Printing.{ChainFits}
 use Rattle.bmp_linear.specs.declared.vector.Entry.{Entry}
 use Rattle.bmp_linear.specs.SparseVectors.{IsRising, IsSparse, FitsBelow, ValuesBelow}
 use Rattle.bmp_graph.specs.Graph.{Graph, vertex_count}
-use Rattle.bmp_cert.specs.declared.cert.Cert.{Cert}
-use Rattle.bmp_cert.specs.Counts.{part_of, generator_count}
+use Rattle.bmp_cert.specs.Counts.{Written, part_of, generator_count}
 use Rattle.bmp_cert.specs.VectorGrammar.{IsEntry, behind_place, IsVector, AreVectors}
-use Rattle.bmp_cert.specs.CertGrammar.{from_degree, AreDegrees, IsPart, IsWellFormed}
+use Rattle.bmp_cert.specs.CertGrammar.{from_degree, AreDegrees, IsPart, HavePartLines}
 use Rattle.bmp_cert.proofs.RowLemmas.{all_from_chain}
 use Rattle.bmp_check.specs.Comparisons.{first_failure}
-use Rattle.bmp_check.specs.Sizes.{Size, is, at_most, listed, lift_size, vertex_sizes, each_at_most, counts_at, largest, limit, cert_sheaf, kernel_sizes, cover_sizes, block_of, block_sizes, shape_sizes, size_comparison, numbered}
-use Rattle.bmp_check.specs.Verdicts.{IsBlock, CountPasses, ShapePasses}
+use Rattle.bmp_check.specs.PartsSheaf.{parts_sheaf}
+use Rattle.bmp_check.specs.Sizes.{Size, is, at_most, listed, lift_size, vertex_sizes, each_at_most, counts_at, largest, limit, kernel_sizes, cover_sizes, block_of, block_sizes, shape_sizes, size_comparison, numbered}
+use Rattle.bmp_check.specs.Verdicts.{HasBlock, CountPasses, ShapePasses}
 use Rattle.bmp_check.specs.Fits.{IsVectorIn, DegreesFit, VertexFits, BlockFits, ShapeGivesFits}
 use Rattle.bmp_check.proofs.NeedLemmas.{fits_from_need, below_from_need}
 use Rattle.bmp_check.proofs.SizeCheckLemmas.{first_passes, first_fails}
@@ -106,22 +106,22 @@ module _ (most : ℕ) where
 
 -- ---- a vertex and a block
 
-module _ (G : Graph) (c : Cert) (formed : IsWellFormed c) (counted : CountPasses G c) (passes : ShapePasses G c) where
+module _ (G : Graph) (c : Written) (formed : HavePartLines (G.prime - 1) c.degree c.parts) (counted : CountPasses G c) (passes : ShapePasses G 1 c) where
   abbrev least : ℕ
-  least = c.job.prime - 1
+  least = G.prime - 1
 
-  part_here : (x : ℕ) → x + 1 < vertex_count G → IsPart least c.job.degree x (part_of c x)
-  part_here x vertex = part_formed c formed x (omega (arith, counted))
+  part_here : (x : ℕ) → x + 1 < vertex_count G → IsPart least c.degree x (part_of c x)
+  part_here x vertex = part_formed least c formed x (omega (arith, counted))
 
-  all_sizes : (x d : ℕ) → IsBlock G c x d → AllHold (shape_sizes G c x d)
-  all_sizes x d block = all_hold x d (shape_sizes G c x d) 0 (passes x d block)
+  all_sizes : (x d : ℕ) → HasBlock G c x d → AllHold (shape_sizes G 1 c x d)
+  all_sizes x d block = all_hold x d (shape_sizes G 1 c x d) 0 (passes x d block)
 
-  first_sizes : (x : ℕ) → x + 1 < vertex_count G → AllHold (vertex_sizes G c x ++ block_sizes G c x 0)
+  first_sizes : (x : ℕ) → x + 1 < vertex_count G → AllHold (vertex_sizes G c x ++ block_sizes G 1 c x 0)
   first_sizes x vertex = subst AllHold (sizes_first G c x 0 refl) (all_sizes x 0 (vertex, omega arith))
 
-  own_sizes : (x d : ℕ) → IsBlock G c x d → AllHold (block_sizes G c x d)
+  own_sizes : (x d : ℕ) → HasBlock G c x d → AllHold (block_sizes G 1 c x d)
   own_sizes x d block = elim (cases_eq d 0) [
-    | inl first ↦ (hold-append (vertex_sizes G c x) (block_sizes G c x d) (subst AllHold (sizes_first G c x d first) (all_sizes x d block))).1
+    | inl first ↦ (hold-append (vertex_sizes G c x) (block_sizes G 1 c x d) (subst AllHold (sizes_first G c x d first) (all_sizes x d block))).1
     | inr later ↦ subst AllHold (sizes_later G c x d later) (all_sizes x d block)
   ]
 
@@ -129,25 +129,25 @@ module _ (G : Graph) (c : Cert) (formed : IsWellFormed c) (counted : CountPasses
   vertex_fits x vertex =
       let part = part_of c x in
       let of = part_here x vertex in
-      let sizes = (hold-append (vertex_sizes G c x) (block_sizes G c x 0) (first_sizes x vertex)).0 in
+      let sizes = (hold-append (vertex_sizes G c x) (block_sizes G 1 c x 0) (first_sizes x vertex)).0 in
       record {
-        degrees = degrees_fit c.job.degree part.degrees of.degrees;
+        degrees = degrees_fit c.degree part.degrees of.degrees;
         edges = sizes.0;
         lift_for_each = of.lifts.0 ∙ ap (λ m. m * length part.degrees) sizes.0;
         lifts = λ i within. record {
           sparse = All-get_or IsSparse part.lifts i [] within (vectors_sparse least (part.edges * length part.degrees) part.lifts of.lifts);
           fits = fits_from_need (get_or part.lifts i []) (lift_size G c x i).right (listed_holds (lift_size G c x) (length part.lifts) i sizes.1 within);
-          below = All-get_or (λ v. ValuesBelow v c.job.prime) part.lifts i [] within (vectors_below least c.job.prime (part.edges * length part.degrees) refl part.lifts of.lifts);
+          below = All-get_or (λ v. ValuesBelow v G.prime) part.lifts i [] within (vectors_below least G.prime (part.edges * length part.degrees) refl part.lifts of.lifts);
         };
       }
 
-  block_fits : (x d : ℕ) → IsBlock G c x d → BlockFits G c x d
+  block_fits : (x d : ℕ) → HasBlock G c x d → BlockFits G c x d
   block_fits x d block =
       let b = block_of c x d in
-      let n = counts_at G (cert_sheaf G c) x d in
+      let n = counts_at G (parts_sheaf G c) x d in
       let tuples = length b.kernel.basis in
       let of = part_here x block.0 in
-      let text = block_formed least (c.job.degree + 1) _ (part_of c x).blocks d of.blocks (omega (arith, block.1)) in
+      let text = block_formed least (c.degree + 1) _ (part_of c x).blocks d of.blocks (omega (arith, block.1)) in
       let all = hold-append (kernel_sizes n b.kernel) (cover_sizes n tuples b.cover ++ at_most (largest n) limit ∷ []) (own_sizes x d block) in
       let kernel = hold-append (each_at_most b.kernel.basis n.positions) (each_at_most b.kernel.rows n.equations) all.0.1.1 in
       let rest = hold-append (cover_sizes n tuples b.cover) (at_most (largest n) limit ∷ []) all.1 in
@@ -165,23 +165,23 @@ module _ (G : Graph) (c : Cert) (formed : IsWellFormed c) (counted : CountPasses
           rows_fit = each_fits b.kernel.rows n.equations kernel.1;
         };
         kernel_below = record {
-          basis_below = vectors_below least c.job.prime tuples refl b.kernel.basis text.basis;
-          rows_below = vectors_below least c.job.prime (length b.kernel.pivots) refl b.kernel.rows text.rows;
+          basis_below = vectors_below least G.prime tuples refl b.kernel.basis text.basis;
+          rows_below = vectors_below least G.prime (length b.kernel.pivots) refl b.kernel.rows text.rows;
         };
         basis_sparse = vectors_sparse least tuples b.kernel.basis text.basis;
         rows_sparse = vectors_sparse least (length b.kernel.pivots) b.kernel.rows text.rows;
         cover_for_each = text.covers.0;
         source_for_each = text.sources.0;
         dual_for_each = text.duals.0;
-        covers = vectors_in least c.job.prime n.stalk tuples b.cover.covers refl text.covers (each_fits b.cover.covers n.stalk covers.0);
-        sources = vectors_in least c.job.prime tuples (generator_count c x d) b.cover.sources refl text.sources (each_fits b.cover.sources tuples others.0);
-        duals = vectors_in least c.job.prime n.boundary (generator_count c x d) b.cover.duals refl text.duals (each_fits b.cover.duals n.boundary others.1);
+        covers = vectors_in least G.prime n.stalk tuples b.cover.covers refl text.covers (each_fits b.cover.covers n.stalk covers.0);
+        sources = vectors_in least G.prime tuples (generator_count c x d) b.cover.sources refl text.sources (each_fits b.cover.sources tuples others.0);
+        duals = vectors_in least G.prime n.boundary (generator_count c x d) b.cover.duals refl text.duals (each_fits b.cover.duals n.boundary others.1);
         few = omega arith;
       }
 
 pub shape_fits : ShapeGivesFits
 shape_fits G c formed counted passes = record {
-  top = degrees_fit c.job.degree (part_of c (vertex_count G - 1)).degrees (degrees_formed c formed (vertex_count G - 1) (omega (arith, formed.vertices.some, counted)));
+  top = degrees_fit c.degree (part_of c (vertex_count G - 1)).degrees (degrees_formed (G.prime - 1) c formed (vertex_count G - 1) (omega (arith, formed.some, counted)));
   vertices = vertex_fits G c formed counted passes;
   blocks = block_fits G c formed counted passes;
 }

@@ -7,11 +7,10 @@ use Rattle.bmp_text.specs.Printing.{ChainFits, Chosen}
 use Rattle.bmp_linear.specs.declared.vector.Entry.{Entry}
 use Rattle.bmp_linear.specs.declared.blocks.DegreeBlock.{DegreeBlock}
 use Rattle.bmp_linear.specs.SparseVectors.{ValuesBelow}
-use Rattle.bmp_cert.specs.declared.cert.Cert.{Cert}
-use Rattle.bmp_cert.specs.Counts.{part_of, no_part}
+use Rattle.bmp_cert.specs.Counts.{Written, part_of, no_part}
 use Rattle.bmp_cert.specs.VectorGrammar.{MOST, IsEntry, behind_place, IsVector, AreVectors, AreRising}
 use Rattle.bmp_cert.specs.BlockGrammar.{IsBlock}
-use Rattle.bmp_cert.specs.CertGrammar.{from_degree, step_up, step_down, AreDegrees, IsTop, IsPart, IsPartAt, IsWellFormed}
+use Rattle.bmp_cert.specs.CertGrammar.{from_degree, step_up, step_down, AreDegrees, IsTop, IsPart, IsPartAt, HavePartLines}
 use Rattle.bmp_cert.proofs.RowLemmas.{all_from_chain}
 use Rattle.bmp_check.specs.Sizes.{no_block}
 
@@ -40,32 +39,29 @@ chosen_one b P Q is h = subst (λ (t : Bool). Chosen t P Q) is h
 
 -- ---- the parts
 
-module _ (c : Cert) (formed : IsWellFormed c) where
-  abbrev most : ℕ
-  most = c.job.prime - 1
-
+module _ (most : ℕ) (c : Written) (formed : HavePartLines most c.degree c.parts) where
   abbrev last : ℕ
-  last = length c.vertices - 1
+  last = length c.parts - 1
 
-  formed_at : (x : ℕ) → x < length c.vertices → IsPartAt last most c.job.degree x (part_of c x)
+  formed_at : (x : ℕ) → x < length c.parts → IsPartAt last most c.degree x (part_of c x)
   formed_at x within =
       let same : last - (last - x) ≡ x = omega arith in
-      subst (λ (y : ℕ). IsPartAt last most c.job.degree y (part_of c x)) same
-      (chain_down (IsPartAt last most c.job.degree) c.vertices last (last - x) no_part formed.vertices.parts.1 (omega arith))
+      subst (λ (y : ℕ). IsPartAt last most c.degree y (part_of c x)) same
+      (chain_down (IsPartAt last most c.degree) c.parts last (last - x) no_part formed.parts.1 (omega arith))
 
-  pub part_formed : (x : ℕ) → x + 1 < length c.vertices → IsPart most c.job.degree x (part_of c x)
+  pub part_formed : (x : ℕ) → x + 1 < length c.parts → IsPart most c.degree x (part_of c x)
   part_formed x within =
-      chosen_other (eqb x last) (IsTop c.job.degree (part_of c x)) (IsPart most c.job.degree x (part_of c x)) (ne_eqb x last (λ same. omega arith)) (formed_at x (omega arith))
+      chosen_other (eqb x last) (IsTop c.degree (part_of c x)) (IsPart most c.degree x (part_of c x)) (ne_eqb x last (λ same. omega arith)) (formed_at x (omega arith))
 
-  pub top_formed : IsTop c.job.degree (part_of c last)
+  pub top_formed : IsTop c.degree (part_of c last)
   top_formed =
-      let some = formed.vertices.some in
-      chosen_one (eqb last last) (IsTop c.job.degree (part_of c last)) (IsPart most c.job.degree last (part_of c last)) (eq-eqb last last refl) (formed_at last (omega arith))
+      let some = formed.some in
+      chosen_one (eqb last last) (IsTop c.degree (part_of c last)) (IsPart most c.degree last (part_of c last)) (eq-eqb last last refl) (formed_at last (omega arith))
 
-  pub degrees_formed : (x : ℕ) → x < length c.vertices → AreDegrees c.job.degree (part_of c x).degrees
+  pub degrees_formed : (x : ℕ) → x < length c.parts → AreDegrees c.degree (part_of c x).degrees
   degrees_formed x within = either (eqb x last) (formed_at x within)
     where
-      either : (b : Bool) → Chosen b (IsTop c.job.degree (part_of c x)) (IsPart most c.job.degree x (part_of c x)) → AreDegrees c.job.degree (part_of c x).degrees
+      either : (b : Bool) → Chosen b (IsTop c.degree (part_of c x)) (IsPart most c.degree x (part_of c x)) → AreDegrees c.degree (part_of c x).degrees
       either true h = h.0
       either false h = h.degrees
 

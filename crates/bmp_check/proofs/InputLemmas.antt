@@ -21,72 +21,72 @@ use Rattle.bmp_sections.specs.TupleLists.{TupleList, tuples_over}
 use Rattle.bmp_sections.specs.Indexes.{HasRoom}
 use Rattle.bmp_sections.proofs.EquationNumbers.{equation_matrix_below}
 use Rattle.bmp_cover.specs.CoverInputs.{HasStalks, HasTuples, CoverFits}
-use Rattle.bmp_cover.specs.Counts.{generator_count}
-use Rattle.bmp_cert.specs.declared.cert.Cert.{Cert}
+use Rattle.bmp_cover.specs.Counts.{generators_in}
+use Rattle.bmp_cert.specs.Counts.{Written, part_of}
 use Rattle.bmp_cert.specs.declared.cert.VertexPart.{VertexPart}
-use Rattle.bmp_cert.specs.Counts.{part_of}
 use Rattle.bmp_check.specs.declared.scratch.BlockScratch.{BlockScratch}
 use Rattle.bmp_check.specs.declared.sizes.SizeTable.{SizeTable}
-use Rattle.bmp_check.specs.Accepted.{IsAccepted}
+use Rattle.bmp_check.specs.Accepted.{IsCheckable}
 use Rattle.bmp_check.specs.Fits.{IsVectorIn, BlockFits}
 use Rattle.bmp_check.specs.Shaped.{IsSheafOf, IsShaped, IsRoomFor}
-use Rattle.bmp_check.specs.Sizes.{cert_sheaf, no_block, block_of, counts_at, largest}
-use Rattle.bmp_check.specs.Verdicts.{IsBlock, CountPasses, ShapePasses}
+use Rattle.bmp_check.specs.PartsSheaf.{parts_sheaf}
+use Rattle.bmp_check.specs.Sizes.{no_block, block_of, counts_at, largest}
+use Rattle.bmp_check.specs.Verdicts.{HasBlock, CountPasses, ShapePasses}
 use Rattle.bmp_check.proofs.FitLemmas.{shape_fits}
 use Rattle.bmp_check.proofs.SheafLemmas.{in_memory, as_written, is_there, above_is_there}
 
 -- the sheaf s and the evidence of the block of x and d are at hand
-pub record IsAtBlock (G : Graph) (c : Cert) {F : Type 0} (s : SheafState F) (x d : ℕ) (own : DegreeBlock) : Type 0 where
-  pub accepted : IsAccepted G c
+pub record IsAtBlock (G : Graph) (c : Written) {F : Type 0} (s : SheafState F) (x d : ℕ) (own : DegreeBlock) : Type 0 where
+  pub checkable : IsCheckable G 1 c
   pub counted : CountPasses G c
-  pub shape : ShapePasses G c
+  pub shape : ShapePasses G 1 c
   pub of : IsSheafOf G c s
-  pub block : IsBlock G c x d
+  pub block : HasBlock G c x d
   pub is : own ≡ block_of c x d
 
-module _ (G : Graph) (c : Cert) (t : SizeTable) {F : Type 0} (kept : SheafState F) (whole : IsShaped G c t kept) (x d : ℕ) (block : IsBlock G c x d) where
-  pub block_there : (read : Cert) (part : VertexPart) → read ≡ c → part ≡ part_of read x → d < length part.blocks
+module _ (G : Graph) (c : Written) (t : SizeTable) {F : Type 0} (kept : SheafState F) (whole : IsShaped G c t kept) (x d : ℕ) (block : HasBlock G c x d) where
+  pub block_there : (read : Written) (part : VertexPart) → read ≡ c → part ≡ part_of read x → d < length part.blocks
   block_there read part cert_is part_is =
-      let fits = (shape_fits G c whole.accepted.formed whole.count whole.shape).blocks x d block in
-      let same : part ≡ part_of c x = part_is ∙ ap (λ (e : Cert). part_of e x) cert_is in
+      let fits = (shape_fits G c whole.checkable.formed whole.count whole.shape).blocks x d block in
+      let same : part ≡ part_of c x = part_is ∙ ap (λ (e : Written). part_of e x) cert_is in
       omega (arith, fits.there, ap (λ (v : VertexPart). length v.blocks) same)
 
   pub at_block :
-      (s : SheafState F) (read : Cert) (part : VertexPart) (own : DegreeBlock) → s ≡ kept → read ≡ c → part ≡ part_of read x → own ≡ get_or part.blocks d no_block →
+      (s : SheafState F) (read : Written) (part : VertexPart) (own : DegreeBlock) → s ≡ kept → read ≡ c → part ≡ part_of read x → own ≡ get_or part.blocks d no_block →
       IsAtBlock G c s x d own
   at_block s read part own sheaf_is cert_is part_is own_is = record {
-    accepted = whole.accepted;
+    checkable = whole.checkable;
     counted = whole.count;
     shape = whole.shape;
     of = subst (λ (u : SheafState F). IsSheafOf G c u) (sym sheaf_is) whole.sheaf;
     block = block;
-    is = own_is ∙ ap (λ (v : VertexPart). get_or v.blocks d no_block) (part_is ∙ ap (λ (e : Cert). part_of e x) cert_is);
+    is = own_is ∙ ap (λ (v : VertexPart). get_or v.blocks d no_block) (part_is ∙ ap (λ (e : Written). part_of e x) cert_is);
   }
 
-module _ (G : Graph) (c : Cert) {F : Type 0} (s : SheafState F) (x d : ℕ) (own : DegreeBlock) (at : IsAtBlock G c s x d own) where
-  accepted : IsAccepted G c
-  accepted = at.accepted
+module _ (G : Graph) (c : Written) {F : Type 0} (s : SheafState F) (x d : ℕ) (own : DegreeBlock) (at : IsAtBlock G c s x d own) where
+  checkable : IsCheckable G 1 c
+  checkable = at.checkable
 
   counted : CountPasses G c
   counted = at.counted
 
-  shape : ShapePasses G c
+  shape : ShapePasses G 1 c
   shape = at.shape
 
   of : IsSheafOf G c s
   of = at.of
 
-  block : IsBlock G c x d
+  block : HasBlock G c x d
   block = at.block
 
   is : own ≡ block_of c x d
   is = at.is
 
   fits : BlockFits G c x d
-  fits = (shape_fits G c accepted.formed counted shape).blocks x d block
+  fits = (shape_fits G c checkable.formed counted shape).blocks x d block
 
-  pub prime_is : s.graph.prime ≡ c.job.prime
-  prime_is = ap (λ (H : Graph). H.prime) of.graph ∙ accepted.graph.bruhat.prime
+  pub prime_is : s.graph.prime ≡ G.prime
+  prime_is = ap (λ (H : Graph). H.prime) of.graph
 
   pub has_room : (scratch : BlockScratch) → IsRoomFor G c scratch → HasRoom s.graph (sheaf_of s) x d scratch.index
   has_room scratch room =
@@ -100,7 +100,7 @@ module _ (G : Graph) (c : Cert) {F : Type 0} (s : SheafState F) (x d : ℕ) (own
       let vertex : x < vertex_count G = omega (arith, block.0) in
       record {
         there = is_there G c counted s of x vertex;
-        above = above_is_there G c counted s of accepted.graph.graph x;
+        above = above_is_there G c counted s of checkable.graph x;
         degree = omega (arith, block.1, of.degree);
         few = in_memory G c counted s of (λ (H : Graph) (S : SheafData). stalk_count H.rank (S.degrees x) d < 2 ^ 32) (omega (arith, few));
         few_on_boundary = in_memory G c counted s of (λ (H : Graph) (S : SheafData). boundary_count H S x d < 2 ^ 32) (omega (arith, few));
@@ -115,14 +115,14 @@ module _ (G : Graph) (c : Cert) {F : Type 0} (s : SheafState F) (x d : ℕ) (own
     of_block = (block_of c x d).kernel
 
     -- from what is written to what is at hand, and back
-    for_kernel : (P : Graph → SheafData → KernelEvidence → Type 0) → P G (cert_sheaf G c) of_block → P s.graph (sheaf_of s) own_kernel
-    for_kernel P h = in_memory G c counted s of (λ (H : Graph) (S : SheafData). P H S own_kernel) (subst (λ (b : DegreeBlock). P G (cert_sheaf G c) b.kernel) (sym is) h)
+    for_kernel : (P : Graph → SheafData → KernelEvidence → Type 0) → P G (parts_sheaf G c) of_block → P s.graph (sheaf_of s) own_kernel
+    for_kernel P h = in_memory G c counted s of (λ (H : Graph) (S : SheafData). P H S own_kernel) (subst (λ (b : DegreeBlock). P G (parts_sheaf G c) b.kernel) (sym is) h)
 
-    pub kernel_passes : (P : ℕ → Matrix → KernelEvidence → Type 0) → P p M own_kernel → P G.prime (equation_matrix G (cert_sheaf G c) x d) of_block
+    pub kernel_passes : (P : ℕ → Matrix → KernelEvidence → Type 0) → P p M own_kernel → P G.prime (equation_matrix G (parts_sheaf G c) x d) of_block
     kernel_passes P h =
         let here : P s.graph.prime (equation_matrix s.graph (sheaf_of s) x d) own_kernel =
         subst (λ q. P q (equation_matrix s.graph (sheaf_of s) x d) own_kernel) prime (subst (λ (m : Matrix). P p m own_kernel) matrix h) in
-        subst (λ (b : DegreeBlock). P G.prime (equation_matrix G (cert_sheaf G c) x d) b.kernel) is
+        subst (λ (b : DegreeBlock). P G.prime (equation_matrix G (parts_sheaf G c) x d) b.kernel) is
         (as_written G c counted s of (λ (H : Graph) (S : SheafData). P H.prime (equation_matrix H S x d) own_kernel) here)
 
     pub numbers_below : IsOverField s.graph → NumbersBelow p M
@@ -137,12 +137,12 @@ module _ (G : Graph) (c : Cert) {F : Type 0} (s : SheafState F) (x d : ℕ) (own
 
     pub kernel_below : EvidenceBelow own_kernel p
     kernel_below =
-        subst (λ q. EvidenceBelow own_kernel q) (sym (prime ∙ prime_is)) (subst (λ (b : DegreeBlock). EvidenceBelow b.kernel c.job.prime) (sym is) fits.kernel_below)
+        subst (λ q. EvidenceBelow own_kernel q) (sym (prime ∙ prime_is)) (subst (λ (b : DegreeBlock). EvidenceBelow b.kernel G.prime) (sym is) fits.kernel_below)
 
-    pub kernel_room : (n : ℕ) → largest (counts_at G (cert_sheaf G c) x d) ≤ n → max M.rows M.cols ≤ n
+    pub kernel_room : (n : ℕ) → largest (counts_at G (parts_sheaf G c) x d) ≤ n → M.cols ≤ n
     kernel_room n room =
-        subst (λ (m : Matrix). max m.rows m.cols ≤ n) (sym matrix)
-        (in_memory G c counted s of (λ (H : Graph) (S : SheafData). max (equation_matrix H S x d).rows (equation_matrix H S x d).cols ≤ n) (omega (arith, room)))
+        subst (λ (m : Matrix). m.cols ≤ n) (sym matrix)
+        (in_memory G c counted s of (λ (H : Graph) (S : SheafData). (equation_matrix H S x d).cols ≤ n) (omega (arith, room)))
 
   -- the cover evidence: L is the list of tuples of the check
   module _ (L : TupleList) (list : L ≡ tuples_over s.graph (sheaf_of s) x d own.kernel.basis) (over : IsOverField s.graph) where
@@ -150,18 +150,18 @@ module _ (G : Graph) (c : Cert) {F : Type 0} (s : SheafState F) (x d : ℕ) (own
     own_cover = own.cover
 
     abbrev written : TupleList
-    written = tuples_over G (cert_sheaf G c) x d (block_of c x d).kernel.basis
+    written = tuples_over G (parts_sheaf G c) x d (block_of c x d).kernel.basis
 
-    pub cover_passes : (P : Graph → SheafData → TupleList → CoverEvidence → Type 0) → P s.graph (sheaf_of s) L own_cover → P G (cert_sheaf G c) written (block_of c x d).cover
+    pub cover_passes : (P : Graph → SheafData → TupleList → CoverEvidence → Type 0) → P s.graph (sheaf_of s) L own_cover → P G (parts_sheaf G c) written (block_of c x d).cover
     cover_passes P h =
-        subst (λ (b : DegreeBlock). P G (cert_sheaf G c) (tuples_over G (cert_sheaf G c) x d b.kernel.basis) b.cover) is
+        subst (λ (b : DegreeBlock). P G (parts_sheaf G c) (tuples_over G (parts_sheaf G c) x d b.kernel.basis) b.cover) is
         (as_written G c counted s of (λ (H : Graph) (S : SheafData). P H S (tuples_over H S x d own.kernel.basis) own_cover)
         (subst (λ (l : TupleList). P s.graph (sheaf_of s) l own_cover) list h))
 
     basis_below : All (λ v. ValuesBelow v s.graph.prime) own.kernel.basis
     basis_below =
         subst (λ q. All (λ (v : List Entry). ValuesBelow v q) own.kernel.basis) (sym prime_is)
-        (subst (λ (b : DegreeBlock). All (λ (v : List Entry). ValuesBelow v c.job.prime) b.kernel.basis) (sym is) fits.kernel_below.basis_below)
+        (subst (λ (b : DegreeBlock). All (λ (v : List Entry). ValuesBelow v G.prime) b.kernel.basis) (sym is) fits.kernel_below.basis_below)
 
     pub has_tuples : HasTuples s x d L
     has_tuples =
@@ -174,27 +174,27 @@ module _ (G : Graph) (c : Cert) {F : Type 0} (s : SheafState F) (x d : ℕ) (own
               (All-get_or (λ (v : List Entry). ValuesBelow v s.graph.prime) own.kernel.basis j [] tuple basis_below);
         })
 
-    all_fit : (n : ℕ) (vs : List (List Entry)) → All (IsVectorIn c.job.prime n) vs → All (λ v. FitsBelow v n) vs
-    all_fit n vs h = All-weaker (IsVectorIn c.job.prime n) (λ (v : List Entry). FitsBelow v n) (λ v in_it. in_it.fits) vs h
+    all_fit : (n : ℕ) (vs : List (List Entry)) → All (IsVectorIn G.prime n) vs → All (λ v. FitsBelow v n) vs
+    all_fit n vs h = All-weaker (IsVectorIn G.prime n) (λ (v : List Entry). FitsBelow v n) (λ v in_it. in_it.fits) vs h
 
-    all_below : (n : ℕ) (vs : List (List Entry)) → All (IsVectorIn c.job.prime n) vs → All (λ v. ValuesBelow v G.prime) vs
+    all_below : (n : ℕ) (vs : List (List Entry)) → All (IsVectorIn G.prime n) vs → All (λ v. ValuesBelow v G.prime) vs
     all_below n vs h =
-        All-weaker (IsVectorIn c.job.prime n) (λ (v : List Entry). ValuesBelow v G.prime)
-        (λ v in_it. subst (λ q. ValuesBelow v q) (sym accepted.graph.bruhat.prime) in_it.below) vs h
+        All-weaker (IsVectorIn G.prime n) (λ (v : List Entry). ValuesBelow v G.prime)
+        (λ v in_it. in_it.below) vs h
 
     -- the same of what is written
     abbrev FitsWritten : Graph → SheafData → DegreeBlock → Type 0
     FitsWritten H S b =
         let count = length b.kernel.basis in
-        (length b.cover.covers ≡ count) × (length b.cover.sources ≡ generator_count S x d) × (length b.cover.duals ≡ generator_count S x d)
+        (length b.cover.covers ≡ count) × (length b.cover.sources ≡ generators_in S x d) × (length b.cover.duals ≡ generators_in S x d)
         × (All (λ v. FitsBelow v (stalk_count H.rank (S.degrees x) d)) b.cover.covers) × (All (λ v. FitsBelow v count) b.cover.sources)
         × (All (λ v. FitsBelow v (boundary_count H S x d)) b.cover.duals)
         × (All (λ v. ValuesBelow v H.prime) b.cover.covers) × (All (λ v. ValuesBelow v H.prime) b.cover.sources) × (All (λ v. ValuesBelow v H.prime) b.cover.duals)
 
-    fits_written : FitsWritten G (cert_sheaf G c) (block_of c x d)
+    fits_written : FitsWritten G (parts_sheaf G c) (block_of c x d)
     fits_written =
         let b = block_of c x d in
-        let n = counts_at G (cert_sheaf G c) x d in
+        let n = counts_at G (parts_sheaf G c) x d in
         let count = length b.kernel.basis in (
           fits.cover_for_each,
           fits.source_for_each,
@@ -210,7 +210,7 @@ module _ (G : Graph) (c : Cert) {F : Type 0} (s : SheafState F) (x d : ℕ) (own
     pub cover_fits : CoverFits s x d L.count own_cover
     cover_fits =
         let here : FitsWritten s.graph (sheaf_of s) own =
-        in_memory G c counted s of (λ (H : Graph) (S : SheafData). FitsWritten H S own) (subst (FitsWritten G (cert_sheaf G c)) (sym is) fits_written) in
+        in_memory G c counted s of (λ (H : Graph) (S : SheafData). FitsWritten H S own) (subst (FitsWritten G (parts_sheaf G c)) (sym is) fits_written) in
         subst (λ (l : TupleList). CoverFits s x d l.count own_cover) (sym list)
         (record {
           covers = here.0;

@@ -13,6 +13,7 @@ pub mod StalkLemmas
 pub mod InputLemmas
 pub mod RoomLemmas
 pub mod WholeLemmas
+pub mod CheckableLemmas
 pub mod AcceptedLemmas
 pub mod Soundness
 pub mod PassLemmas

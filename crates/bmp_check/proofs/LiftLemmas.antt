@@ -9,9 +9,8 @@ use Rattle.bmp_graph.specs.Graph.{Graph, IsGraph, IsUpRange, vertex_count, upper
 use Rattle.bmp_sheaf.specs.Coordinates.{stalk_count}
 use Rattle.bmp_sheaf.specs.Written.{first_edge, up_count}
 use Rattle.bmp_sheaf.proofs.UpEdges.{first_edge_is, up_count_is}
-use Rattle.bmp_cert.specs.declared.cert.Cert.{Cert}
+use Rattle.bmp_cert.specs.Counts.{Written, part_of}
 use Rattle.bmp_cert.specs.declared.cert.VertexPart.{VertexPart}
-use Rattle.bmp_cert.specs.Counts.{part_of}
 use Rattle.bmp_cert.specs.CertGrammar.{IsPart}
 use Rattle.bmp_check.specs.Sizes.{Size, is, at_most, need, listed, lift_size}
 use Rattle.bmp_check.specs.SizeLists.{size_in}
@@ -66,17 +65,17 @@ pub record StandsIn (sizes : List Size) (i : ℕ) (size : Size) : Type 0 where
   pub within : i < length sizes
   pub read : size ≡ get_or sizes i size
 
-module _ (G : Graph) (c : Cert) (t : SizeTable) (x from to : ℕ) (part : VertexPart) (ready : IsReady G c t) (graph : IsGraph G) (range : IsUpRange G x from to) (vertex : x + 1 < vertex_count G) (is_part : part ≡ part_of c x) where
+module _ (G : Graph) (c : Written) (t : SizeTable) (x from to : ℕ) (part : VertexPart) (ready : IsReady G c t) (graph : IsGraph G) (range : IsUpRange G x from to) (vertex : x + 1 < vertex_count G) (is_part : part ≡ part_of c x) where
   -- what holds of the size of the edges, from the numbers at hand
   pub edges_as : (P : List Size → Type 0) (m n : ℕ) → m ≡ part.edges → n ≡ to - from → P (is m n ∷ []) → P (is (part_of c x).edges (up_count G x) ∷ [])
   edges_as P m n left right h =
       subst P (ap₂ (λ (a b : ℕ). is a b ∷ []) (left ∙ ap (λ (v : VertexPart). v.edges) is_part) (right ∙ sym (up_count_is G x from to range))) h
 
   module _ (edges : part.edges ≡ to - from) (i : ℕ) (within : i < length part.lifts) where
-    pub lift_here : LiftAt part c.job.degree from to i
+    pub lift_here : LiftAt part c.degree from to i
     lift_here =
-        lift_at part (c.job.prime - 1) c.job.degree x from to i
-        (subst (IsPart (c.job.prime - 1) c.job.degree x) (sym is_part) (part_formed c ready.formed x (omega (arith, vertex, ready.vertices)))) edges within
+        lift_at part (G.prime - 1) c.degree x from to i
+        (subst (IsPart (G.prime - 1) c.degree x) (sym is_part) (part_formed (G.prime - 1) c ready.formed x (omega (arith, vertex, ready.vertices)))) edges within
 
     -- the size of a lift from its need and its room
     pub lift_stands :

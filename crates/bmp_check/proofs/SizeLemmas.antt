@@ -8,14 +8,14 @@ use Rattle.bmp_math.specs.Sums.{sum_below}
 use Rattle.bmp_math.proofs.SumLemmas.{sum_below_same, sum_below_more}
 use Rattle.bmp_graph.specs.Graph.{Graph, IsGraph, IsAbove, vertex_count}
 use Rattle.bmp_cert.proofs.CountLemmas.{place_below}
-use Rattle.bmp_cert.specs.Counts.{part_of}
-use Rattle.bmp_cert.specs.declared.cert.Cert.{Cert}
+use Rattle.bmp_cert.specs.Counts.{Written, part_of}
 use Rattle.bmp_cert.specs.declared.cert.VertexPart.{VertexPart}
 use Rattle.bmp_sheaf.specs.Coordinates.{stalk_count, boundary_count}
 use Rattle.bmp_sections.specs.Numbers.{is_above}
 use Rattle.bmp_sections.specs.Positions.{position_count, equation_count}
 use Rattle.bmp_sections.proofs.AboveLemmas.{above_from_test, test_from_above, above_is_closed, equation_count_is}
-use Rattle.bmp_check.specs.Sizes.{cert_sheaf, counts_at}
+use Rattle.bmp_check.specs.PartsSheaf.{parts_sheaf}
+use Rattle.bmp_check.specs.Sizes.{counts_at}
 use Rattle.bmp_check.specs.SizeLists.{MOST_SIZE, IsSizeList, AreSizes, size_in, size_numbers}
 use Rattle.bmp_check.specs.SizeTables.{sum_above, AreSizesOf}
 use Rattle.bmp_check.specs.declared.sizes.SizeTable.{SizeTable}
@@ -77,19 +77,19 @@ same_sizes m n p q r s =
 
 -- the stalk's size from the part
 pub stalk_number :
-    (G : Graph) (c : Cert) (r x d size : ℕ) (part : VertexPart) → r ≡ G.rank → part ≡ part_of c x →
-    size ≡ stalk_count r part.degrees d → size ≡ stalk_count G.rank ((cert_sheaf G c).degrees x) d
+    (G : Graph) (c : Written) (r x d size : ℕ) (part : VertexPart) → r ≡ G.rank → part ≡ part_of c x →
+    size ≡ stalk_count r part.degrees d → size ≡ stalk_count G.rank ((parts_sheaf G c).degrees x) d
 stalk_number G c r x d size part rank is counted = counted ∙ ap₂ (λ (q : ℕ) (v : VertexPart). stalk_count q v.degrees d) rank is
 
 -- the sizes of a block from the table
-module _ (G : Graph) (is : IsGraph G) (c : Cert) (t : SizeTable) (of : AreSizesOf G c t) (x d : ℕ) (vertex : x < vertex_count G) (degree : d ≤ c.job.degree) where
+module _ (G : Graph) (is : IsGraph G) (c : Written) (t : SizeTable) (of : AreSizesOf G c t) (x d : ℕ) (vertex : x < vertex_count G) (degree : d ≤ c.degree) where
   pub block_counts :
       (n : BlockSizes) →
       n.positions ≡ sum_above G x (λ y. size_in t.stalks y d) → n.equations ≡ sum_above G x (λ y. size_in t.boundaries y d) →
       n.stalk ≡ size_in t.stalks x d → n.boundary ≡ size_in t.boundaries x d →
-      n ≡ counts_at G (cert_sheaf G c) x d
+      n ≡ counts_at G (parts_sheaf G c) x d
   block_counts n positions equations stalk boundary =
-      let F = cert_sheaf G c in
+      let F = parts_sheaf G c in
       let all_positions : n.positions ≡ position_count G F (is_above G x) d =
       positions ∙ sum_above_same G x (λ y. size_in t.stalks y d) (λ y. stalk_count G.rank (F.degrees y) d) (λ y below. of.stalks.numbers y d below degree) in
       let all_equations : n.equations ≡ equation_count G F (is_above G x) d =

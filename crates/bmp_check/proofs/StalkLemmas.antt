@@ -18,10 +18,9 @@ use Rattle.bmp_sheaf.specs.StalkFaults.{IsStalk, HasLifts, LiftFits, BreaksFirst
 use Rattle.bmp_sheaf.proofs.UpEdges.{up_range_of}
 use Rattle.bmp_sheaf.specs.declared.fault.SheafFault.{SheafFault}
 use Rattle.bmp_sheaf.specs.declared.fault.SheafFault.TheVariants.{DegreeOrder, DegreeOverBound, LiftShape, Memory}
-use Rattle.bmp_cert.specs.declared.cert.Cert.{Cert}
+use Rattle.bmp_cert.specs.Counts.{Written, no_part, part_of}
 use Rattle.bmp_cert.specs.declared.cert.VertexPart.{VertexPart}
-use Rattle.bmp_cert.specs.Counts.{no_part, part_of}
-use Rattle.bmp_check.specs.Accepted.{IsAccepted}
+use Rattle.bmp_check.specs.Accepted.{IsCheckable}
 use Rattle.bmp_check.specs.Fits.{DegreesFit, ShapesFit}
 use Rattle.bmp_check.specs.Shaped.{cert_stalk}
 use Rattle.bmp_check.specs.Verdicts.{CountPasses}
@@ -38,10 +37,10 @@ memory_alone s x degrees lifts stalk (LiftShape i) breaks = elim breaks.2 [
 memory_alone s x degrees lifts stalk Memory breaks = refl
 
 -- the first i stalks of the sheaf of c
-pub record IsSheafUpTo (G : Graph) (c : Cert) (i : ℕ) {F : Type 0} (s : SheafState F) : Type 0 where
+pub record IsSheafUpTo (G : Graph) (c : Written) (i : ℕ) {F : Type 0} (s : SheafState F) : Type 0 where
   pub graph : s.graph ≡ G
-  pub degree : s.degree ≡ c.job.degree
-  pub stalks : s.stalks ≡ map cert_stalk (take i c.vertices)
+  pub degree : s.degree ≡ c.degree
+  pub stalks : s.stalks ≡ map cert_stalk (take i c.parts)
 
 -- no edge goes up from the greatest vertex
 no_edges_up : (G : Graph) → IsGraph G → (x : ℕ) → vertex_count G ≤ x + 1 → up_count G x ≡ 0
@@ -54,8 +53,8 @@ no_edges_up G is x last =
     ∙ sum_below-zeros (edge_count G)
 
 module _
-    {F : Type 0} (s : SheafState F) (c : Cert) (accepted : IsAccepted s.graph c) (counted : CountPasses s.graph c) (fits : ShapesFit s.graph c)
-    (degree : s.degree ≡ c.job.degree) (i : ℕ) (stalks : s.stalks ≡ map cert_stalk (take i c.vertices)) (more : i < length c.vertices) where
+    {F : Type 0} (s : SheafState F) (c : Written) (checkable : IsCheckable s.graph 1 c) (counted : CountPasses s.graph c) (fits : ShapesFit s.graph c)
+    (degree : s.degree ≡ c.degree) (i : ℕ) (stalks : s.stalks ≡ map cert_stalk (take i c.parts)) (more : i < length c.parts) where
   abbrev G : Graph
   G = s.graph
 
@@ -63,9 +62,9 @@ module _
   x = next_vertex s
 
   pub pushed : length s.stalks ≡ i
-  pushed = ap length stalks ∙ length-map (take i c.vertices) cert_stalk ∙ length-take-le i c.vertices (omega arith)
+  pushed = ap length stalks ∙ length-map (take i c.parts) cert_stalk ∙ length-take-le i c.parts (omega arith)
 
-  vertex : x ≡ length c.vertices - 1 - i
+  vertex : x ≡ length c.parts - 1 - i
   vertex = omega (arith, pushed, counted)
 
   -- the stalks above are there
@@ -74,37 +73,36 @@ module _
       let k = vertex_count G - 1 - y in
       let earlier : k < i = omega (arith, vertex, counted, above, below) in
       ap (λ (l : List Stalk). get_or l k no_stalk) stalks
-      ∙ get_or-map cert_stalk (take i c.vertices) k no_part
-      ∙ ap cert_stalk (get_or-take i c.vertices k no_part earlier)
-      ∙ ap (λ (n : ℕ). cert_stalk (get_or c.vertices (n - 1 - y) no_part)) (sym counted)
+      ∙ get_or-map cert_stalk (take i c.parts) k no_part
+      ∙ ap cert_stalk (get_or-take i c.parts k no_part earlier)
+      ∙ ap (λ (n : ℕ). cert_stalk (get_or c.parts (n - 1 - y) no_part)) (sym counted)
 
   abbrev part : VertexPart
   part = part_of c x
 
-  degrees_fit : DegreesFit c.job.degree part.degrees
+  degrees_fit : DegreesFit c.degree part.degrees
   degrees_fit = elim (cases_eq i 0) [
-    | inl top ↦ let same : vertex_count G - 1 ≡ x = omega (arith, vertex, top, counted) in subst (λ (y : ℕ). DegreesFit c.job.degree (part_of c y).degrees) same fits.top
+    | inl top ↦ let same : vertex_count G - 1 ≡ x = omega (arith, vertex, top, counted) in subst (λ (y : ℕ). DegreesFit c.degree (part_of c y).degrees) same fits.top
     | inr other ↦ (fits.vertices x (omega (arith, vertex, other, counted, more))).degrees
   ]
 
   top_lifts : i ≡ 0 → part.lifts ≡ []
   top_lifts top =
-      let same : x ≡ length c.vertices - 1 = omega (arith, vertex, top) in
-      ap (λ (y : ℕ). (part_of c y).lifts) same ∙ ap (λ (v : VertexPart). v.lifts) (top_formed c accepted.formed).1
+      let same : x ≡ length c.parts - 1 = omega (arith, vertex, top) in
+      ap (λ (y : ℕ). (part_of c y).lifts) same ∙ ap (λ (v : VertexPart). v.lifts) (top_formed (G.prime - 1) c checkable.formed).1
 
   pub values_below : All (λ v. ValuesBelow v G.prime) part.lifts
   values_below = elim (cases_eq i 0) [
     | inl top ↦ subst (All (λ (v : List Entry). ValuesBelow v G.prime)) (sym (top_lifts top)) (All-nil (λ (v : List Entry). ValuesBelow v G.prime))
     | inr other ↦
-        let formed = part_formed c accepted.formed x (omega (arith, vertex, other, more)) in
-        subst (λ (p : ℕ). All (λ (v : List Entry). ValuesBelow v p) part.lifts) (sym accepted.graph.bruhat.prime)
-        (vectors_below (c.job.prime - 1) c.job.prime (part.edges * length part.degrees) refl part.lifts formed.lifts)
+        let formed = part_formed (G.prime - 1) c checkable.formed x (omega (arith, vertex, other, more)) in
+        vectors_below (G.prime - 1) G.prime (part.edges * length part.degrees) refl part.lifts formed.lifts
   ]
 
   counts_lifts : HasLifts s x part.degrees part.lifts
   counts_lifts = elim (cases_eq i 0) [
     | inl top ↦
-        let none : up_count G x ≡ 0 = no_edges_up G accepted.graph.graph x (omega (arith, vertex, top, counted)) in
+        let none : up_count G x ≡ 0 = no_edges_up G checkable.graph x (omega (arith, vertex, top, counted)) in
         let product : up_count G x * length part.degrees ≡ 0 = ap (λ m. m * length part.degrees) none ∙ omega arith in
         ap length (top_lifts top) ∙ sym product
     | inr other ↦ (fits.vertices x (omega (arith, vertex, other, counted, more))).lift_for_each
@@ -120,11 +118,11 @@ module _
         let some : 0 < k = positive (up_count G x) k j all in
         let place : j / k < up_count G x = div_below j k (up_count G x) some all in
         let e = first_edge G x + j / k in
-        let range = up_range_of G accepted.graph.graph x in
+        let range = up_range_of G checkable.graph x in
         let is_edge : e < edge_count G = omega (arith, range.within, place) in
         let starts : lower G e ≡ x = range.inside e (omega arith) (omega (arith, place)) in
-        let rises : lower G e < upper G e = edge_rises G accepted.graph.graph e is_edge in
-        let stalk = above_is (upper G e) (omega (arith, rises, starts)) (accepted.graph.graph.ends e is_edge).1 in
+        let rises : lower G e < upper G e = edge_rises G checkable.graph e is_edge in
+        let stalk = above_is (upper G e) (omega (arith, rises, starts)) (checkable.graph.ends e is_edge).1 in
         subst (λ (t : Stalk). FitsBelow (get_or part.lifts j []) (stalk_count G.rank t.degrees (get_or part.degrees (j % k) 0))) (sym stalk) (fit.lifts j within).fits
   ]
     where
@@ -137,15 +135,15 @@ module _
   is_stalk : IsStalk s x part.degrees part.lifts
   is_stalk = record {
     rising = λ j within k next. degrees_fit.rising k j 0 (omega (arith, next)) within;
-    bound = λ j within. subst (λ d. get_or part.degrees j 0 ≤ d) (sym degree) (All-get_or (λ e. e ≤ c.job.degree) part.degrees j 0 within degrees_fit.most);
+    bound = λ j within. subst (λ d. get_or part.degrees j 0 ≤ d) (sym degree) (All-get_or (λ e. e ≤ c.degree) part.degrees j 0 within degrees_fit.most);
     counted = counts_lifts;
     fit = lift_fits;
   }
 
   -- the part as it is read
-  module _ (own : VertexPart) (read : get_or c.vertices i no_part ≡ own) where
+  module _ (own : VertexPart) (read : get_or c.parts i no_part ≡ own) where
     is_own : part ≡ own
-    is_own = let place : length c.vertices - 1 - x ≡ i = omega (arith, vertex, more) in ap (λ (k : ℕ). get_or c.vertices k no_part) place ∙ read
+    is_own = let place : length c.parts - 1 - x ≡ i = omega (arith, vertex, more) in ap (λ (k : ℕ). get_or c.parts k no_part) place ∙ read
 
     pub own_is_stalk : IsStalk s x own.degrees own.lifts
     own_is_stalk = subst (λ (v : VertexPart). IsStalk s x v.degrees v.lifts) is_own is_stalk
@@ -153,8 +151,8 @@ module _
     pub own_below : All (λ v. ValuesBelow v G.prime) own.lifts
     own_below = subst (λ (v : VertexPart). All (λ w. ValuesBelow w G.prime) v.lifts) is_own values_below
 
-    pub stalks_more : s.stalks ++ cert_stalk own ∷ [] ≡ map cert_stalk (take (i + 1) c.vertices)
+    pub stalks_more : s.stalks ++ cert_stalk own ∷ [] ≡ map cert_stalk (take (i + 1) c.parts)
     stalks_more =
         ap₂ (λ (l : List Stalk) (v : VertexPart). l ++ cert_stalk v ∷ []) stalks (sym read)
-        ∙ sym (map-append cert_stalk (take i c.vertices) (get_or c.vertices i no_part ∷ []))
-        ∙ sym (ap (map cert_stalk) (take_more c.vertices i no_part more))
+        ∙ sym (map-append cert_stalk (take i c.parts) (get_or c.parts i no_part ∷ []))
+        ∙ sym (ap (map cert_stalk) (take_more c.parts i no_part more))

@@ -1,9 +1,8 @@
 -- Comparisons of numbers in a fixed order, and the first that fails.
 --   Comparison              the numbers and where they stand, and whether the comparison passes
 --   equal r                 passes where left and right are equal
---   at_most r               passes where left is not greater than right
 --   first_failure cs        the refusal of the first comparison that doesn't pass, None where all pass
-use Rattle.std.specs.Prelude.{Bool, ◌==◌, List, [], ◌∷◌, Option, Some, None, nat_le, if◌then◌else◌}
+use Rattle.std.specs.Prelude.{Bool, ◌==◌, List, [], ◌∷◌, Option, Some, None, if◌then◌else◌}
 use Rattle.bmp_check.specs.declared.refusal.Refusal.{Refusal}
 
 pub record Comparison : Type 0 where
@@ -12,9 +11,6 @@ pub record Comparison : Type 0 where
 
 abbrev pub equal : Refusal → Comparison
 equal r = record { refusal = r; passes = r.left == r.right }
-
-abbrev pub at_most : Refusal → Comparison
-at_most r = record { refusal = r; passes = nat_le r.left r.right }
 
 abbrev pub first_failure : List Comparison → Option Refusal
 first_failure [] = None

@@ -14,12 +14,12 @@ use Rattle.bmp_linear.specs.SparseVectors.{IsSparse, FitsBelow, ValuesBelow}
 use Rattle.bmp_linear.specs.Evidence.{EvidenceFits, EvidenceBelow}
 use Rattle.bmp_sheaf.specs.Coordinates.{stalk_count}
 use Rattle.bmp_sheaf.specs.Written.{first_edge, up_count}
-use Rattle.bmp_cert.specs.declared.cert.Cert.{Cert}
-use Rattle.bmp_cert.specs.Counts.{part_of, generator_count}
-use Rattle.bmp_cert.specs.CertGrammar.{IsWellFormed}
+use Rattle.bmp_cert.specs.Counts.{Written, part_of, generator_count}
+use Rattle.bmp_cert.specs.CertGrammar.{HavePartLines}
 use Rattle.bmp_check.specs.declared.sizes.BlockSizes.{BlockSizes}
-use Rattle.bmp_check.specs.Sizes.{cert_sheaf, counts_at, largest, block_of}
-use Rattle.bmp_check.specs.Verdicts.{IsBlock, CountPasses, ShapePasses}
+use Rattle.bmp_check.specs.PartsSheaf.{parts_sheaf}
+use Rattle.bmp_check.specs.Sizes.{counts_at, largest, block_of}
+use Rattle.bmp_check.specs.Verdicts.{HasBlock, CountPasses, ShapePasses}
 
 pub record IsVectorIn (p n : ℕ) (v : List Entry) : Type 0 where
   pub sparse : IsSparse v
@@ -31,42 +31,42 @@ pub record DegreesFit (D : ℕ) (es : List ℕ) : Type 0 where
   pub most : All (λ e. e ≤ D) es
 
 -- lifts stand by edge and then by generator
-pub record VertexFits (G : Graph) (c : Cert) (x : ℕ) : Type 0 where
-  pub degrees : DegreesFit c.job.degree (part_of c x).degrees
+pub record VertexFits (G : Graph) (c : Written) (x : ℕ) : Type 0 where
+  pub degrees : DegreesFit c.degree (part_of c x).degrees
   pub edges : (part_of c x).edges ≡ up_count G x
   pub lift_for_each : length (part_of c x).lifts ≡ up_count G x * length (part_of c x).degrees
   pub lifts : (i : ℕ) → i < length (part_of c x).lifts →
       let k = length (part_of c x).degrees in
-      IsVectorIn c.job.prime
+      IsVectorIn G.prime
       (stalk_count G.rank (part_of c (upper G (first_edge G x + i / k))).degrees (slice_index (part_of c x).degrees (i % k)))
       (slice_index_or (part_of c x).lifts i [])
 
-module _ (G : Graph) (c : Cert) (x d : ℕ) where
+module _ (G : Graph) (c : Written) (x d : ℕ) where
   abbrev block : DegreeBlock
   block = block_of c x d
 
   abbrev n : BlockSizes
-  n = counts_at G (cert_sheaf G c) x d
+  n = counts_at G (parts_sheaf G c) x d
 
   -- there are as many sources and dual forms as generators of degree d
   pub record BlockFits : Type 0 where
     pub there : d < length (part_of c x).blocks
     pub kernel : EvidenceFits block.kernel n.equations n.positions
-    pub kernel_below : EvidenceBelow block.kernel c.job.prime
+    pub kernel_below : EvidenceBelow block.kernel G.prime
     pub basis_sparse : All IsSparse block.kernel.basis
     pub rows_sparse : All IsSparse block.kernel.rows
     pub cover_for_each : length block.cover.covers ≡ length block.kernel.basis
     pub source_for_each : length block.cover.sources ≡ generator_count c x d
     pub dual_for_each : length block.cover.duals ≡ generator_count c x d
-    pub covers : All (IsVectorIn c.job.prime n.stalk) block.cover.covers
-    pub sources : All (IsVectorIn c.job.prime (length block.kernel.basis)) block.cover.sources
-    pub duals : All (IsVectorIn c.job.prime n.boundary) block.cover.duals
+    pub covers : All (IsVectorIn G.prime n.stalk) block.cover.covers
+    pub sources : All (IsVectorIn G.prime (length block.kernel.basis)) block.cover.sources
+    pub duals : All (IsVectorIn G.prime n.boundary) block.cover.duals
     pub few : largest n < 2 ^ 32
 
-pub record ShapesFit (G : Graph) (c : Cert) : Type 0 where
-  pub top : DegreesFit c.job.degree (part_of c (vertex_count G - 1)).degrees
+pub record ShapesFit (G : Graph) (c : Written) : Type 0 where
+  pub top : DegreesFit c.degree (part_of c (vertex_count G - 1)).degrees
   pub vertices : (x : ℕ) → x + 1 < vertex_count G → VertexFits G c x
-  pub blocks : (x d : ℕ) → IsBlock G c x d → BlockFits G c x d
+  pub blocks : (x d : ℕ) → HasBlock G c x d → BlockFits G c x d
 
 abbrev pub ShapeGivesFits : Type 0
-ShapeGivesFits = (G : Graph) (c : Cert) → IsWellFormed c → CountPasses G c → ShapePasses G c → ShapesFit G c
+ShapeGivesFits = (G : Graph) (c : Written) → HavePartLines (G.prime - 1) c.degree c.parts → CountPasses G c → ShapePasses G 1 c → ShapesFit G c

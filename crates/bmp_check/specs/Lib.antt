@@ -1,5 +1,6 @@
 pub mod Refusals
 pub mod Comparisons
+pub mod PartsSheaf
 pub mod Sizes
 pub mod Verdicts
 pub mod BlockOrder

@@ -1,23 +1,27 @@
 -- What a certificate in memory whose sizes all fit is about. In the order to read:
---   graph_in s     the moment graph of its job
---   cert_in s      the certificate
+--   written_in g   a degree bound and parts in memory
+--   graph_in s     the moment graph
+--   cert_in s      what is written of it
 --   sizes_in s     the table of its sizes
 --   sheaf_in s     the sheaf
 --   IsWhole s      the certificate is accepted, the number of its vertices and all sizes pass, and the table and the sheaf are its own
 use Rattle.bmp_field.specs.declared.prime.PrimeField.{PrimeField}
 use Rattle.bmp_graph.specs.Graph.{Graph}
 use Rattle.bmp_sheaf.specs.States.{SheafState}
-use Rattle.bmp_cert.specs.declared.cert.Cert.{Cert}
-use Rattle.bmp_cert.specs.JobViews.{graph_of, prepared_of}
+use Rattle.bmp_cert.specs.Counts.{Written}
+use Rattle.bmp_check.specs.declared.given.Given.{Given}
 use Rattle.bmp_check.specs.declared.shaped.Shaped.{Shaped}
 use Rattle.bmp_check.specs.declared.sizes.SizeTable.{SizeTable}
 use Rattle.bmp_check.specs.Shaped.{IsShaped}
 
-abbrev pub graph_in : Shaped → Graph
-graph_in s = graph_of (prepared_of s.accepted.now)
+abbrev pub written_in : Given → Written
+written_in g = record { degree = g.degree; parts = g.parts.now }
 
-abbrev pub cert_in : Shaped → Cert
-cert_in s = s.cert.now
+abbrev pub graph_in : Shaped → Graph
+graph_in s = s.graph.now
+
+abbrev pub cert_in : Shaped → Written
+cert_in s = written_in s.given
 
 abbrev pub sizes_in : Shaped → SizeTable
 sizes_in s = s.sizes

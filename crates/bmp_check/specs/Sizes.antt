@@ -2,7 +2,6 @@
 -- list, along which the indices count. In the order to read:
 --   Size, is, at_most             a number of the text and the one that it has to be, or not to pass
 --   need, need_of_places          the fewest places in which a vector, or a list of places, fits
---   cert_sheaf G c                the sheaf that the certificate writes down
 --   lift_sizes G c x              each lift fits the stalk at the upper end, in its generator's degree
 --   vertex_sizes G c x            the number of edges, and the lifts
 --   counts_at G F x d             how many positions, equations, stalk and boundary coordinates there are at x and d
@@ -10,9 +9,9 @@
 --   kernel_sizes n e              the sizes of kernel evidence where these are n
 --   cover_sizes n tuples e        those of cover evidence
 --   sizes_of_block n b            those of a block
---   block_sizes G c x d           those of the block of x and d
---   shape_sizes G c x d           both in degree 0, the second in the others
---   shape_comparisons G c x d     the comparisons, by index
+--   block_sizes G v c x d         those of the block of x and d
+--   shape_sizes G v c x d         both in degree 0, the second in the others
+--   shape_comparisons G v c x d   the comparisons, by index
 use Rattle.std.specs.Prelude.{ℕ, zero, suc, ◌+◌, ◌/◌, ◌%◌, ◌==◌, nat_le, max, Bool, true, false, if◌then◌else◌, List, [], ◌∷◌, ◌++◌, map, length, slice_index, slice_index_or}
 use Rattle.bmp_graph.specs.Graph.{Graph, upper}
 use Rattle.bmp_linear.specs.declared.vector.Entry.{Entry}
@@ -22,12 +21,12 @@ use Rattle.bmp_linear.specs.declared.blocks.DegreeBlock.{DegreeBlock}
 use Rattle.bmp_cover.specs.declared.kind.Kind.TheVariants.{Shape}
 use Rattle.bmp_sheaf.specs.Sheaves.{SheafData}
 use Rattle.bmp_sheaf.specs.Coordinates.{stalk_count, boundary_count}
-use Rattle.bmp_sheaf.specs.Written.{first_edge, up_count, written_sheaf}
+use Rattle.bmp_sheaf.specs.Written.{first_edge, up_count}
 use Rattle.bmp_sections.specs.Positions.{position_count, equation_count}
 use Rattle.bmp_sections.specs.Numbers.{is_above}
-use Rattle.bmp_cert.specs.declared.cert.Cert.{Cert}
-use Rattle.bmp_cert.specs.Counts.{part_of}
+use Rattle.bmp_cert.specs.Counts.{Written, part_of}
 use Rattle.bmp_check.specs.Comparisons.{Comparison}
+use Rattle.bmp_check.specs.PartsSheaf.{parts_sheaf}
 use Rattle.bmp_check.specs.declared.sizes.BlockSizes.{BlockSizes}
 
 pub record Size : Type 0 where
@@ -50,15 +49,12 @@ unfoldable pub need_of_places : List ℕ → ℕ
 need_of_places [] = 0
 need_of_places (k ∷ ks) = max (k + 1) (need_of_places ks)
 
-abbrev pub cert_sheaf : Graph → Cert → SheafData
-cert_sheaf G c = written_sheaf G (λ x. (part_of c x).degrees) (λ x. (part_of c x).lifts)
-
 -- f 0, .., f (n - 1)
 abbrev pub listed : (ℕ → Size) → ℕ → List Size
 listed f zero = []
 listed f (suc n) = listed f n ++ f n ∷ []
 
-module _ (G : Graph) (c : Cert) (x : ℕ) where
+module _ (G : Graph) (c : Written) (x : ℕ) where
   -- lifts stand by edge and then by generator
   abbrev pub lift_size : ℕ → Size
   lift_size i =
@@ -102,14 +98,15 @@ sizes_of_block n b =
 abbrev pub no_block : DegreeBlock
 no_block = record { kernel = record { pivots = []; basis = []; rows = [] }; cover = record { covers = []; sources = []; duals = [] } }
 
-abbrev pub block_of : Cert → ℕ → ℕ → DegreeBlock
+abbrev pub block_of : Written → ℕ → ℕ → DegreeBlock
 block_of c x d = slice_index_or (part_of c x).blocks d no_block
 
-abbrev pub block_sizes : Graph → Cert → ℕ → ℕ → List Size
-block_sizes G c x d = sizes_of_block (counts_at G (cert_sheaf G c) x d) (block_of c x d)
+-- those of version 1 alone
+abbrev pub block_sizes : Graph → ℕ → Written → ℕ → ℕ → List Size
+block_sizes G v c x d = if v == 1 then sizes_of_block (counts_at G (parts_sheaf G c) x d) (block_of c x d) else []
 
-abbrev pub shape_sizes : Graph → Cert → ℕ → ℕ → List Size
-shape_sizes G c x d = if d == 0 then vertex_sizes G c x ++ block_sizes G c x d else block_sizes G c x d
+abbrev pub shape_sizes : Graph → ℕ → Written → ℕ → ℕ → List Size
+shape_sizes G v c x d = if d == 0 then vertex_sizes G c x ++ block_sizes G v c x d else block_sizes G v c x d
 
 abbrev pub size_comparison : ℕ → ℕ → ℕ → Size → Comparison
 size_comparison x d i s = record {
@@ -121,5 +118,5 @@ abbrev pub numbered : ℕ → ℕ → ℕ → List Size → List Comparison
 numbered x d i [] = []
 numbered x d i (s ∷ ss) = size_comparison x d i s ∷ numbered x d (i + 1) ss
 
-abbrev pub shape_comparisons : Graph → Cert → ℕ → ℕ → List Comparison
-shape_comparisons G c x d = numbered x d 0 (shape_sizes G c x d)
+abbrev pub shape_comparisons : Graph → ℕ → Written → ℕ → ℕ → List Comparison
+shape_comparisons G v c x d = numbered x d 0 (shape_sizes G v c x d)

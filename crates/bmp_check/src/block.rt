@@ -1,11 +1,11 @@
 //! The check of one block.
 ghost use Rattle.std.specs.Prelude.{◌≡◌, ◌≢◌, OnOk, IfErr, length};
 ghost use Rattle.bmp_graph.specs.Graph.{Graph};
-ghost use Rattle.bmp_cert.specs.declared.cert.Cert.{Cert};
+ghost use Rattle.bmp_cert.specs.Counts.{Written};
 ghost use Rattle.bmp_check.specs.Shaped.{IsRoomFor};
 ghost use Rattle.bmp_check.specs.ShapedViews.{graph_in, cert_in, IsWhole};
 ghost use Rattle.bmp_check.specs.Sizes.{block_of};
-ghost use Rattle.bmp_check.specs.Verdicts.{IsBlock, BlockPasses, IsBlockRefusal, kernel_refusal, cover_refusal};
+ghost use Rattle.bmp_check.specs.Verdicts.{HasBlock, BlockPasses, IsBlockRefusal, kernel_refusal, cover_refusal};
 
 use crate::part::{block_of, part_of};
 use crate::refusal::Refusal;
@@ -17,7 +17,7 @@ use bmp_sections::{Equations, Tuples};
 
 /// The refusal of a comparison of kernel evidence with so many tuples, which come before the combinations of the equations.
 fn kernel_refusal(x: u32, d: u32, tuples: u64, fault: RowFault) -> Refusal
-    ensures { (G : Graph) (c : Cert) → tuples ≡ length (block_of c x d).kernel.basis → result ≡ kernel_refusal G c x d fault }
+    ensures { (G : Graph) (c : Written) → tuples ≡ length (block_of c x d).kernel.basis → result ≡ kernel_refusal G c x d fault }
 {
     let (kind, index) = if fault.index < tuples {
         (Kind::Section, fault.index)
@@ -37,7 +37,7 @@ fn kernel_refusal(x: u32, d: u32, tuples: u64, fault: RowFault) -> Refusal
 
 /// The refusal of a comparison of cover evidence.
 fn cover_refusal(x: u32, d: u32, fault: CoverFault) -> Refusal
-    ensures { (G : Graph) (c : Cert) → result ≡ cover_refusal G c x d fault }
+    ensures { (G : Graph) (c : Written) → result ≡ cover_refusal G c x d fault }
 {
     Refusal {
         vertex: x,
@@ -54,16 +54,16 @@ fn cover_refusal(x: u32, d: u32, fault: CoverFault) -> Refusal
 /// is the first that fails. Takes no memory, and whatever the scratch holds before, the answer is the same.
 pub fn check_block(s: &Shaped, x: u32, d: u32, scratch: &mut BlockScratch) -> Result<(), Refusal>
     requires whole { IsWhole s.now }
-    requires block { IsBlock (graph_in s.now) (cert_in s.now) x d }
+    requires block { HasBlock (graph_in s.now) (cert_in s.now) x d }
     requires room { IsRoomFor (graph_in s.now) (cert_in s.now) scratch.old }
-    ensures ok { OnOk result (BlockPasses (graph_in s.now) (cert_in s.now) x d) }
-    ensures first { IfErr result (IsBlockRefusal (graph_in s.now) (cert_in s.now) x d) }
+    ensures ok { OnOk result (BlockPasses (graph_in s.now) 1 (cert_in s.now) x d) }
+    ensures first { IfErr result (IsBlockRefusal (graph_in s.now) 1 (cert_in s.now) x d) }
     ensures differ { IfErr result (λ r. r.left ≢ r.right) }
     ensures room { IsRoomFor (graph_in s.now) (cert_in s.now) scratch.new }
 {
     let sheaf = s.sheaf();
     let _graph = sheaf.graph();
-    let block = block_of(part_of(s.cert(), x), d);
+    let block = block_of(part_of(s.given(), x), d);
     scratch.index.fill(sheaf, x, d);
     let equations = Equations::over(sheaf, x, d, &scratch.index);
     if let Err(fault) = check_kernel(

@@ -3,11 +3,13 @@ ghost use Rattle.std.specs.Prelude.{◌≡◌, ◌+◌, ◌-◌, ◌*◌, ◌^�
 ghost use Rattle.bmp_poly.specs.Exponents.{count};
 ghost use Rattle.bmp_graph.specs.Graph.{vertex_count};
 ghost use Rattle.bmp_sheaf.specs.Coordinates.{stalk_count, boundary_count};
-ghost use Rattle.bmp_check.specs.Sizes.{cert_sheaf};
+ghost use Rattle.bmp_check.specs.PartsSheaf.{parts_sheaf};
 ghost use Rattle.bmp_check.specs.SizeLists.{MOST_SIZE};
+ghost use Rattle.bmp_check.specs.ShapedViews.{written_in};
 
+use crate::given::Given;
 use crate::part::part_of;
-use bmp_cert::{Cert, Degrees};
+use bmp_cert::Degrees;
 use bmp_graph::MomentGraph;
 use bmp_poly::monomials;
 
@@ -45,12 +47,12 @@ pub(crate) fn stalk_size(rank: u8, degrees: &Degrees, d: u32) -> u64
 }
 
 /// How many coordinates of degree `d` a boundary at the vertex has.
-pub(crate) fn boundary_size(graph: &MomentGraph, c: &Cert, x: u32, d: u32) -> u64
-    requires vertices { length c.now.vertices ≡ vertex_count graph.now }
+pub(crate) fn boundary_size(graph: &MomentGraph, c: &Given, x: u32, d: u32) -> u64
+    requires vertices { length c.now.parts.now ≡ vertex_count graph.now }
     requires few { vertex_count graph.now ≤ 4096 }
     requires vertex { x < vertex_count graph.now }
     requires degree { d ≤ 6 }
-    ensures number { result ≡ boundary_count graph.now (cert_sheaf graph.now c.now) x d }
+    ensures number { result ≡ boundary_count graph.now (parts_sheaf graph.now (written_in c.now)) x d }
     ensures small { result ≤ MOST_SIZE }
 {
     let rank = graph.rank() - 1;

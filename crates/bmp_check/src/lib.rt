@@ -9,6 +9,7 @@
 mod block;
 mod blocks;
 mod counts;
+mod given;
 pub mod laws;
 mod need;
 mod part;
@@ -20,14 +21,13 @@ mod shaped;
 mod size_check;
 mod size_rows;
 mod sizes;
-#[cfg(test)]
-mod tests;
 mod top;
 mod whole;
 mod written;
 
 pub use block::check_block;
 pub use blocks::{block_at, block_count};
+pub use given::Given;
 pub use refusal::{CheckError, Refusal, refusal_line};
 pub use scratch::{BlockScratch, scratch_for};
 pub use shape_pass::{check_count, check_shape};
@@ -35,5 +35,5 @@ pub use shaped::Shaped;
 pub use size_rows::SizeRows;
 pub use sizes::{BlockSizes, SizeTable};
 pub use top::check_top;
-pub use whole::check;
+pub use whole::{check, check_graph};
 pub use written::shape;

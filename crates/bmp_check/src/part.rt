@@ -2,16 +2,18 @@
 ghost use Rattle.std.specs.Prelude.{◌≡◌, ◌<◌, length, slice_index_or};
 ghost use Rattle.bmp_cert.specs.Counts.{part_of};
 ghost use Rattle.bmp_check.specs.Sizes.{no_block};
+ghost use Rattle.bmp_check.specs.ShapedViews.{written_in};
 
-use bmp_cert::{Cert, VertexPart};
+use crate::given::Given;
+use bmp_cert::VertexPart;
 use bmp_linear::DegreeBlock;
 
 /// The part of a vertex.
-pub(crate) fn part_of(c: &Cert, x: u32) -> &VertexPart
-    requires { x < length c.now.vertices }
-    ensures { result.now ≡ part_of c.now x }
+pub(crate) fn part_of<'a>(c: &Given<'a>, x: u32) -> &'a VertexPart
+    requires { x < length c.now.parts.now }
+    ensures { result.now ≡ part_of (written_in c.now) x }
 {
-    c.vertices.at(c.vertices.len() - 1 - x)
+    c.parts.at(c.parts.len() - 1 - x)
 }
 
 /// The block of a degree.

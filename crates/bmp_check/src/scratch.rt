@@ -4,8 +4,9 @@ ghost use Rattle.bmp_graph.specs.Graph.{vertex_count};
 ghost use Rattle.bmp_sheaf.specs.Coordinates.{stalk_count, boundary_count};
 ghost use Rattle.bmp_check.specs.Shaped.{IsRoomFor};
 ghost use Rattle.bmp_check.specs.ShapedViews.{graph_in, cert_in, IsWhole};
-ghost use Rattle.bmp_check.specs.Sizes.{cert_sheaf, counts_at, largest};
-ghost use Rattle.bmp_check.specs.Verdicts.{IsBlock};
+ghost use Rattle.bmp_check.specs.PartsSheaf.{parts_sheaf};
+ghost use Rattle.bmp_check.specs.Sizes.{counts_at, largest};
+ghost use Rattle.bmp_check.specs.Verdicts.{HasBlock};
 
 use crate::blocks::{block_at, block_count};
 use crate::shaped::Shaped;
@@ -24,9 +25,9 @@ pub struct BlockScratch {
 fn block_room(s: &Shaped) -> (u64, u64)
     requires { IsWhole s.now }
     ensures equations { let G = graph_in s.now in let c = cert_in s.now in
-        (x d : ℕ) → IsBlock G c x d → (counts_at G (cert_sheaf G c) x d).equations ≤ result.0 }
+        (x d : ℕ) → HasBlock G c x d → (counts_at G (parts_sheaf G c) x d).equations ≤ result.0 }
     ensures sizes { let G = graph_in s.now in let c = cert_in s.now in
-        (x d : ℕ) → IsBlock G c x d → largest (counts_at G (cert_sheaf G c) x d) ≤ result.1 }
+        (x d : ℕ) → HasBlock G c x d → largest (counts_at G (parts_sheaf G c) x d) ≤ result.1 }
 {
     let graph = s.graph();
     let vertices = graph.vertices();
@@ -47,9 +48,9 @@ fn block_room(s: &Shaped) -> (u64, u64)
 fn coordinate_room(s: &Shaped) -> u64
     requires { IsWhole s.now }
     ensures stalks { let G = graph_in s.now in let c = cert_in s.now in
-        (x d : ℕ) → x < vertex_count G → d ≤ c.job.degree → stalk_count G.rank ((cert_sheaf G c).degrees x) d ≤ result }
+        (x d : ℕ) → x < vertex_count G → d ≤ c.degree → stalk_count G.rank ((parts_sheaf G c).degrees x) d ≤ result }
     ensures boundaries { let G = graph_in s.now in let c = cert_in s.now in
-        (x d : ℕ) → x < vertex_count G → d ≤ c.job.degree → boundary_count G (cert_sheaf G c) x d ≤ result }
+        (x d : ℕ) → x < vertex_count G → d ≤ c.degree → boundary_count G (parts_sheaf G c) x d ≤ result }
 {
     let sheaf = s.sheaf();
     let degree = sheaf.degree();

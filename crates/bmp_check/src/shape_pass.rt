@@ -1,28 +1,29 @@
 //! The pass over all sizes, which comes before any number is compared.
-ghost use Rattle.std.specs.Prelude.{◌≡◌, ◌≢◌, ◌+◌, ◌<◌, ◌≤◌, None, Some, length, MatchResult, IfErr};
+ghost use Rattle.std.specs.Prelude.{◌≡◌, ◌≢◌, ◌+◌, ◌-◌, ◌<◌, ◌≤◌, None, Some, length, MatchResult, IfErr};
 ghost use Rattle.bmp_graph.specs.Graph.{vertex_count};
-ghost use Rattle.bmp_cert.specs.CertGrammar.{IsWellFormed};
+ghost use Rattle.bmp_cert.specs.CertGrammar.{HavePartLines};
 ghost use Rattle.bmp_check.specs.Comparisons.{first_failure};
 ghost use Rattle.bmp_check.specs.Sizes.{shape_comparisons};
 ghost use Rattle.bmp_check.specs.SizeTables.{AreSizesOf, IsReady};
 ghost use Rattle.bmp_check.specs.Verdicts.{CountPasses, IsCountRefusal, ShapePassesAt, ShapePasses, IsShapeRefusal};
+ghost use Rattle.bmp_check.specs.ShapedViews.{written_in};
 
 use crate::Refusal;
 use crate::blocks::{block_at, block_count};
+use crate::given::Given;
 use crate::part::{block_of, part_of};
 use crate::shape_sizes::{check_block_sizes, check_vertex_sizes};
 use crate::size_check::SizeCheck;
 use crate::sizes::SizeTable;
-use bmp_cert::Cert;
 use bmp_cover::Kind;
 use bmp_graph::MomentGraph;
 
 /// Compares the number of vertices of the text with the graph's. Takes no memory.
-pub fn check_count(graph: &MomentGraph, c: &Cert) -> Result<(), Refusal>
-    ensures first { MatchResult result (λ _. CountPasses graph.now c.now) (IsCountRefusal graph.now c.now) }
+pub fn check_count(graph: &MomentGraph, c: &Given) -> Result<(), Refusal>
+    ensures first { MatchResult result (λ _. CountPasses graph.now (written_in c.now)) (IsCountRefusal graph.now (written_in c.now)) }
     ensures differ { IfErr result (λ r. r.left ≢ r.right) }
 {
-    let left = u64::from(c.vertices.len());
+    let left = u64::from(c.parts.len());
     let right = u64::from(graph.vertices());
     if left != right {
         return Err(Refusal {
@@ -41,17 +42,17 @@ pub fn check_count(graph: &MomentGraph, c: &Cert) -> Result<(), Refusal>
 // The sizes of one vertex and degree.
 fn check_shape_at(
     graph: &MomentGraph,
-    c: &Cert,
+    c: &Given,
     table: &SizeTable,
     x: u32,
     d: u32,
 ) -> Result<(), Refusal>
-    requires ready { IsReady graph.now c.now table.now }
+    requires ready { IsReady graph.now (written_in c.now) table.now }
     requires vertex { x + 1 < vertex_count graph.now }
-    requires degree { d ≤ c.now.job.degree }
+    requires degree { d ≤ c.now.degree }
     ensures { MatchResult result
-        (λ _. ShapePassesAt graph.now c.now x d)
-        (λ r. first_failure (shape_comparisons graph.now c.now x d) ≡ Some r) }
+        (λ _. ShapePassesAt graph.now 1 (written_in c.now) x d)
+        (λ r. first_failure (shape_comparisons graph.now 1 (written_in c.now) x d) ≡ Some r) }
 {
     let mut at = SizeCheck {
         vertex: x,
@@ -66,16 +67,16 @@ fn check_shape_at(
 }
 
 /// Compares the sizes of all blocks, and of their vertices, and gives the first comparison that fails. Takes no memory.
-pub fn check_shape(graph: &MomentGraph, c: &Cert, table: &SizeTable) -> Result<(), Refusal>
-    requires formed { IsWellFormed c.now }
-    requires vertices { length c.now.vertices ≡ vertex_count graph.now }
-    requires degree { c.now.job.degree ≤ 6 }
-    requires table { AreSizesOf graph.now c.now table.now }
-    ensures first { MatchResult result (λ _. ShapePasses graph.now c.now) (IsShapeRefusal graph.now c.now) }
+pub fn check_shape(graph: &MomentGraph, c: &Given, table: &SizeTable) -> Result<(), Refusal>
+    requires formed { HavePartLines (graph.now.prime - 1) c.now.degree c.now.parts.now }
+    requires vertices { length c.now.parts.now ≡ vertex_count graph.now }
+    requires degree { c.now.degree ≤ 6 }
+    requires table { AreSizesOf graph.now (written_in c.now) table.now }
+    ensures first { MatchResult result (λ _. ShapePasses graph.now 1 (written_in c.now)) (IsShapeRefusal graph.now 1 (written_in c.now)) }
     ensures differ { IfErr result (λ r. r.left ≢ r.right) }
 {
     let vertices = graph.vertices();
-    let degree = u32::from(c.job.degree);
+    let degree = c.degree;
     'each: for i in 0..block_count(vertices, degree) {
         let (x, d) = block_at(vertices, degree, i);
         check_shape_at(graph, c, table, x, d)?;

@@ -6,13 +6,15 @@ ghost use Rattle.bmp_check.specs.Sizes.{vertex_sizes, kernel_sizes, cover_sizes,
 ghost use Rattle.bmp_check.specs.SizeLists.{size_in};
 ghost use Rattle.bmp_check.specs.SizeTables.{IsReady};
 ghost use Rattle.bmp_check.specs.SizeChecks.{Compares};
+ghost use Rattle.bmp_check.specs.ShapedViews.{written_in};
 
 use crate::Refusal;
+use crate::given::Given;
 use crate::need::{need, need_of_places};
 use crate::part::part_of;
 use crate::size_check::SizeCheck;
 use crate::sizes::{BlockSizes, SizeTable};
-use bmp_cert::{Cert, VertexPart};
+use bmp_cert::VertexPart;
 use bmp_graph::MomentGraph;
 use bmp_linear::{CoverEvidence, DegreeBlock, KernelEvidence};
 
@@ -35,15 +37,15 @@ fn lift_room(graph: &MomentGraph, table: &SizeTable, part: &VertexPart, first: u
 /// Compares the number of edges of a vertex with the graph's, and the need of each lift with its room.
 pub(crate) fn check_vertex_sizes(
     graph: &MomentGraph,
-    c: &Cert,
+    c: &Given,
     table: &SizeTable,
     x: u32,
     at: &mut SizeCheck,
 ) -> Result<(), Refusal>
-    requires ready { IsReady graph.now c.now table.now }
+    requires ready { IsReady graph.now (written_in c.now) table.now }
     requires vertex { x + 1 < vertex_count graph.now }
     requires room { at.old.index < 2 ^ 32 }
-    ensures compares { Compares at.old at.new (vertex_sizes graph.now c.now x) result }
+    ensures compares { Compares at.old at.new (vertex_sizes graph.now (written_in c.now) x) result }
     ensures index { OnOk result (at.new.index < 2 ^ 34) }
 {
     let part = part_of(c, x);

@@ -1,45 +1,45 @@
-//! Certificates whose sizes all fit, with the sheaves that they write down.
+//! Parts of vertices whose sizes all fit, with the sheaf that they write down.
 ghost use Rattle.std.specs.Prelude.{◌≡◌};
-ghost use Rattle.bmp_check.specs.ShapedViews.{graph_in, cert_in, sizes_in, sheaf_in};
+ghost use Rattle.bmp_check.specs.ShapedViews.{written_in, graph_in, cert_in, sizes_in, sheaf_in};
 
+use crate::given::Given;
 use crate::sizes::SizeTable;
-use bmp_cert::{Accepted, Cert};
 use bmp_field::PrimeField;
 use bmp_graph::MomentGraph;
 use bmp_sheaf::Sheaf;
 
-/// A certificate whose number of vertices and sizes all pass, and the sheaf that it writes down on the graph of its job.
+/// Parts of the vertices of a moment graph whose number and sizes all pass, and the sheaf that they write down on it.
 #[derive(Drop)]
 pub struct Shaped<'a> {
-    pub(crate) accepted: &'a Accepted,
-    pub(crate) cert: &'a Cert,
+    pub(crate) graph: &'a MomentGraph,
+    pub(crate) given: Given<'a>,
     pub(crate) sizes: SizeTable,
     pub(crate) sheaf: Sheaf<PrimeField>,
 }
 
-impl Shaped<'_> {
-    /// The moment graph of the job.
+impl<'a> Shaped<'a> {
+    /// The moment graph.
     pub fn graph(&self) -> &MomentGraph
         ensures { result.now ≡ graph_in self.now }
     {
-        self.accepted.graph()
+        self.graph
     }
 
-    /// The certificate.
-    pub fn cert(&self) -> &Cert
-        ensures { result.now ≡ cert_in self.now }
+    /// The degree bound and the parts.
+    pub fn given(&self) -> &Given<'a>
+        ensures { written_in result.now ≡ cert_in self.now }
     {
-        self.cert
+        &self.given
     }
 
-    /// The sizes of its blocks.
+    /// The sizes of the blocks.
     pub fn sizes(&self) -> &SizeTable
         ensures { result.now ≡ sizes_in self.now }
     {
         &self.sizes
     }
 
-    /// The sheaf that it writes down.
+    /// The sheaf that is written down.
     pub fn sheaf(&self) -> &Sheaf<PrimeField>
         ensures { result.now ≡ sheaf_in self.now }
     {

@@ -1,13 +1,16 @@
 //! The sizes of a certificate's sheaf: a table made once, and the sizes of a block.
 ghost use Rattle.std.specs.Prelude.{◌≡◌, ◌<◌, ◌≤◌, length, IfOk};
 ghost use Rattle.bmp_graph.specs.Graph.{vertex_count};
-ghost use Rattle.bmp_check.specs.Sizes.{cert_sheaf, counts_at, largest};
+ghost use Rattle.bmp_check.specs.PartsSheaf.{parts_sheaf};
+ghost use Rattle.bmp_check.specs.Sizes.{counts_at, largest};
 ghost use Rattle.bmp_check.specs.SizeTables.{AreSizesOf};
+ghost use Rattle.bmp_cert.specs.Counts.{Written};
+ghost use Rattle.bmp_check.specs.ShapedViews.{written_in};
 
 use crate::counts::{boundary_size, stalk_size};
+use crate::given::Given;
 use crate::part::part_of;
 use crate::size_rows::SizeRows;
-use bmp_cert::Cert;
 use bmp_graph::MomentGraph;
 use std::alloc::{AllocError, Global};
 
@@ -41,13 +44,13 @@ impl BlockSizes {
 
 impl SizeTable {
     /// The sizes of the sheaf that a certificate writes down on a graph.
-    pub fn new(alloc: Global, graph: &MomentGraph, c: &Cert) -> Result<SizeTable, AllocError>
-        requires vertices { length c.now.vertices ≡ vertex_count graph.now }
-        requires degree { c.now.job.degree ≤ 6 }
-        ensures { IfOk result (AreSizesOf graph.now c.now) }
+    pub fn new(alloc: Global, graph: &MomentGraph, c: &Given) -> Result<SizeTable, AllocError>
+        requires vertices { length c.now.parts.now ≡ vertex_count graph.now }
+        requires degree { c.now.degree ≤ 6 }
+        ensures { IfOk result (AreSizesOf graph.now (written_in c.now)) }
     {
         let vertices = graph.vertices();
-        let width = u32::from(c.job.degree) + 1;
+        let width = c.degree + 1;
         let mut stalks = Vec::new(alloc);
         let mut boundaries = Vec::new(alloc);
         'each: for k in 0..vertices * width {
@@ -76,8 +79,8 @@ impl SizeTable {
         requires boundaries { self.now.boundaries.vertices ≡ vertex_count graph.now }
         requires vertex { x < vertex_count graph.now }
         requires degree { (d < self.now.stalks.width) × (d < self.now.boundaries.width) }
-        ensures { (c : Cert) → AreSizesOf graph.now c self.now → d ≤ c.job.degree →
-            result ≡ counts_at graph.now (cert_sheaf graph.now c) x d }
+        ensures { (c : Written) → AreSizesOf graph.now c self.now → d ≤ c.degree →
+            result ≡ counts_at graph.now (parts_sheaf graph.now c) x d }
     {
         BlockSizes {
             positions: self.stalks.sum_above(graph, x, d),

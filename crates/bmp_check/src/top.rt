@@ -2,23 +2,24 @@
 ghost use Rattle.std.specs.Prelude.{◌≡◌, ◌≢◌, ◌≤◌, None, Some, length, MatchResult, IfErr};
 ghost use Rattle.bmp_check.specs.Comparisons.{first_failure};
 ghost use Rattle.bmp_check.specs.Verdicts.{top_comparisons};
+ghost use Rattle.bmp_check.specs.ShapedViews.{written_in};
 
 use crate::Refusal;
-use bmp_cert::Cert;
+use crate::given::Given;
 use bmp_cover::Kind;
 
 /// Compares the number of generators of the greatest vertex with 1, and then the degree of that one with 0.
 /// Takes no memory.
-pub fn check_top(c: &Cert) -> Result<(), Refusal>
-    requires { 1 ≤ length c.now.vertices }
+pub fn check_top(c: &Given) -> Result<(), Refusal>
+    requires { 1 ≤ length c.now.parts.now }
     ensures first { MatchResult result
-        (λ _. first_failure (top_comparisons c.now) ≡ None)
-        (λ r. first_failure (top_comparisons c.now) ≡ Some r) }
+        (λ _. first_failure (top_comparisons (written_in c.now)) ≡ None)
+        (λ r. first_failure (top_comparisons (written_in c.now)) ≡ Some r) }
     ensures differ { IfErr result (λ r. r.left ≢ r.right) }
 {
-    let degrees = &c.vertices.at(0).degrees;
+    let degrees = &c.parts.at(0).degrees;
     let refusal = Refusal {
-        vertex: c.vertices.len() - 1,
+        vertex: c.parts.len() - 1,
         degree: 0,
         kind: Kind::Top,
         index: 0,

@@ -1,24 +1,26 @@
 //! The check of a whole certificate.
 ghost use Rattle.std.specs.Prelude.{◌≡◌, ◌≢◌, ℕ, ◌≤◌, OnOk, IfOk, IfErr};
-ghost use Rattle.bmp_cover.specs.BradenMacPherson.{IsBradenMacPherson};
+ghost use Rattle.bmp_cover.specs.BradenMacPherson.{IsBradenMacPherson, HasGeneratorsUpTo};
 ghost use Rattle.bmp_cover.specs.Counts.{CountsAreDimensions};
-ghost use Rattle.bmp_cert.specs.Counts.{IsRanksOf};
+ghost use Rattle.bmp_cert.specs.Counts.{Written, written_by, IsRanksOf};
 ghost use Rattle.bmp_cert.specs.JobViews.{graph_of, prepared_of};
-ghost use Rattle.bmp_check.specs.Accepted.{IsAccepted, top};
+ghost use Rattle.bmp_check.specs.Accepted.{IsAccepted, IsCheckable, top_vertex};
 ghost use Rattle.bmp_check.specs.CheckErrors.{IsRefusedBy};
 ghost use Rattle.bmp_check.specs.Shaped.{IsRoomFor};
 ghost use Rattle.bmp_check.specs.ShapedViews.{graph_in, cert_in, IsWhole};
-ghost use Rattle.bmp_check.specs.Sizes.{cert_sheaf};
-ghost use Rattle.bmp_check.specs.Verdicts.{IsBlock, BlockPasses, IsFirstBlockRefusal, Passes, IsFirstRefusal};
+ghost use Rattle.bmp_check.specs.PartsSheaf.{parts_sheaf};
+ghost use Rattle.bmp_check.specs.Verdicts.{HasBlock, BlockPasses, IsFirstBlockRefusal, Passes, IsFirstRefusal};
 
 use crate::block::check_block;
 use crate::blocks::{block_at, block_count};
+use crate::given::Given;
 use crate::refusal::{CheckError, Refusal};
 use crate::scratch::{BlockScratch, scratch_for};
 use crate::shaped::Shaped;
 use crate::top::check_top;
-use crate::written::shape;
-use bmp_cert::{Accepted, Cert, Ranks};
+use crate::written::{check_sizes, shaped_of};
+use bmp_cert::{Accepted, Cert, Parts, Ranks};
+use bmp_graph::MomentGraph;
 use std::alloc::Global;
 use std::thread::Threads;
 
@@ -27,8 +29,8 @@ fn check_blocks(s: &Shaped, scratch: &mut BlockScratch) -> Result<(), Refusal>
     requires whole { IsWhole s.now }
     requires room { IsRoomFor (graph_in s.now) (cert_in s.now) scratch.old }
     ensures ok { let G = graph_in s.now in let c = cert_in s.now in
-        OnOk result ((x d : ℕ) → IsBlock G c x d → BlockPasses G c x d) }
-    ensures first { IfErr result (IsFirstBlockRefusal (graph_in s.now) (cert_in s.now)) }
+        OnOk result ((x d : ℕ) → HasBlock G c x d → BlockPasses G 1 c x d) }
+    ensures first { IfErr result (IsFirstBlockRefusal (graph_in s.now) 1 (cert_in s.now)) }
     ensures differ { IfErr result (λ r. r.left ≢ r.right) }
 {
     let vertices = s.graph().vertices();
@@ -40,12 +42,46 @@ fn check_blocks(s: &Shaped, scratch: &mut BlockScratch) -> Result<(), Refusal>
     Ok(())
 }
 
-/// Checks a certificate whose job is the accepted one. It answers the numbers of generators exactly where no comparison fails, and
+/// Checks parts of the vertices of a moment graph. It answers the numbers of generators exactly where no comparison fails, and
 /// else the first that fails: the number of vertices and all sizes come first, then the greatest vertex, then the blocks. Then
-/// the sheaf is a Braden-MacPherson sheaf (Braden-MacPherson 2001; Fiebig-Williamson) in every degree up to that of the job, and
-/// each number is the dimension of the boundary module modulo multiples of positive degree.
+/// the sheaf is a Braden-MacPherson sheaf (Braden-MacPherson 2001; Fiebig-Williamson) in every degree up to the bound, no
+/// generator has a degree above the bound, and each number is the dimension of the boundary module modulo multiples of positive degree.
 ///
 /// The blocks are checked in their order, whatever the number of workers is.
+pub fn check_graph(
+    rt: &(impl Threads + Sync),
+    alloc: Global,
+    graph: &MomentGraph,
+    degree: u32,
+    version: u8,
+    parts: &Parts,
+    workers: u32,
+) -> Result<Ranks, CheckError>
+    requires checkable { IsCheckable graph.now version (record { degree = degree; parts = parts.now }) }
+    requires workers { (1 ≤ workers) × (workers ≤ 32) }
+    ensures ranks { IfOk result (IsRanksOf (record { degree = degree; parts = parts.now })) }
+    ensures passes { OnOk result (Passes graph.now version (record { degree = degree; parts = parts.now })) }
+    ensures sheaf { let w : Written = record { degree = degree; parts = parts.now } in
+        OnOk result (IsBradenMacPherson graph.now (parts_sheaf graph.now w) degree (top_vertex graph.now)) }
+    ensures bounded { let w : Written = record { degree = degree; parts = parts.now } in
+        OnOk result (HasGeneratorsUpTo graph.now (parts_sheaf graph.now w) degree) }
+    ensures dimensions { let w : Written = record { degree = degree; parts = parts.now } in
+        OnOk result (CountsAreDimensions graph.now (parts_sheaf graph.now w) degree (top_vertex graph.now)) }
+    ensures refused { IfErr result (IsRefusedBy (IsFirstRefusal graph.now version (record { degree = degree; parts = parts.now }))) }
+{
+    let _workers = workers;
+    let _version = version;
+    let given = Given { degree, parts };
+    let sizes = check_sizes(alloc, graph, &given)?;
+    check_top(&given)?;
+    let shaped = shaped_of(alloc, graph, &given, sizes)?;
+    let mut scratch = scratch_for(alloc, &shaped)?;
+    check_blocks(&shaped, &mut scratch)?;
+    let ranks = Ranks::of_parts(alloc, parts, degree)?;
+    Ok(ranks)
+}
+
+/// Checks a certificate whose job is the accepted one, as [`check_graph`] does on the graph of the job.
 pub fn check(
     rt: &(impl Threads + Sync),
     alloc: Global,
@@ -55,19 +91,23 @@ pub fn check(
 ) -> Result<Ranks, CheckError>
     requires accepted { IsAccepted (graph_of (prepared_of a.now)) c.now }
     requires workers { (1 ≤ workers) × (workers ≤ 32) }
-    ensures ranks { IfOk result (IsRanksOf c.now) }
-    ensures passes { OnOk result (Passes (graph_of (prepared_of a.now)) c.now) }
+    ensures ranks { IfOk result (IsRanksOf (written_by c.now)) }
+    ensures passes { OnOk result (Passes (graph_of (prepared_of a.now)) c.now.version (written_by c.now)) }
     ensures sheaf { let G = graph_of (prepared_of a.now) in
-        OnOk result (IsBradenMacPherson G (cert_sheaf G c.now) c.now.job.degree (top G)) }
+        OnOk result (IsBradenMacPherson G (parts_sheaf G (written_by c.now)) c.now.job.degree (top_vertex G)) }
+    ensures bounded { let G = graph_of (prepared_of a.now) in
+        OnOk result (HasGeneratorsUpTo G (parts_sheaf G (written_by c.now)) c.now.job.degree) }
     ensures dimensions { let G = graph_of (prepared_of a.now) in
-        OnOk result (CountsAreDimensions G (cert_sheaf G c.now) c.now.job.degree (top G)) }
-    ensures refused { IfErr result (IsRefusedBy (IsFirstRefusal (graph_of (prepared_of a.now)) c.now)) }
+        OnOk result (CountsAreDimensions G (parts_sheaf G (written_by c.now)) c.now.job.degree (top_vertex G)) }
+    ensures refused { IfErr result (IsRefusedBy (IsFirstRefusal (graph_of (prepared_of a.now)) c.now.version (written_by c.now))) }
 {
-    let _workers = workers;
-    let shaped = shape(alloc, a, c)?;
-    check_top(c)?;
-    let mut scratch = scratch_for(alloc, &shaped)?;
-    check_blocks(&shaped, &mut scratch)?;
-    let ranks = Ranks::of(alloc, c)?;
-    Ok(ranks)
+    check_graph(
+        rt,
+        alloc,
+        a.graph(),
+        u32::from(c.job.degree),
+        c.version,
+        &c.vertices,
+        workers,
+    )
 }

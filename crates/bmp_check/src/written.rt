@@ -1,21 +1,22 @@
-//! The sheaf that a certificate writes down, where all sizes pass.
+//! The sheaf that parts write down, where all sizes pass.
 ghost use Rattle.std.specs.Prelude.{◌≡◌, ◌<◌, ◌⊎◌, OnOk, IfErr, IfOk, All, length};
 ghost use Rattle.bmp_linear.specs.SparseVectors.{ValuesBelow};
 ghost use Rattle.bmp_graph.specs.Graph.{vertex_count};
 ghost use Rattle.bmp_sheaf.specs.States.{next_vertex, with_stalk};
 ghost use Rattle.bmp_sheaf.specs.StalkFaults.{IsStalk};
-ghost use Rattle.bmp_cert.specs.JobViews.{graph_of, prepared_of};
-ghost use Rattle.bmp_check.specs.Accepted.{IsAccepted};
+ghost use Rattle.bmp_check.specs.Accepted.{IsCheckable};
 ghost use Rattle.bmp_check.specs.CheckErrors.{IsRefusedBy};
 ghost use Rattle.bmp_check.specs.Shaped.{cert_stalk, IsSheafOf};
-ghost use Rattle.bmp_check.specs.ShapedViews.{graph_in, cert_in, IsWhole};
+ghost use Rattle.bmp_check.specs.ShapedViews.{written_in, graph_in, cert_in, IsWhole};
+ghost use Rattle.bmp_check.specs.SizeTables.{AreSizesOf};
 ghost use Rattle.bmp_check.specs.Verdicts.{CountPasses, ShapePasses, IsCountRefusal, IsShapeRefusal};
 
+use crate::given::Given;
 use crate::refusal::CheckError;
 use crate::shape_pass::{check_count, check_shape};
 use crate::shaped::Shaped;
 use crate::sizes::SizeTable;
-use bmp_cert::{Accepted, Cert, VertexPart};
+use bmp_cert::VertexPart;
 use bmp_field::PrimeField;
 use bmp_graph::MomentGraph;
 use bmp_sheaf::{Sheaf, SheafFault};
@@ -35,45 +36,85 @@ fn push_part(sheaf: &mut Sheaf<PrimeField>, part: &VertexPart) -> Result<(), All
     }
 }
 
-/// The sheaf that a certificate writes down on the graph of its job: its stalks come from the greatest vertex down.
-fn sheaf_of(alloc: Global, graph: &MomentGraph, c: &Cert) -> Result<Sheaf<PrimeField>, AllocError>
-    requires accepted { IsAccepted graph.now c.now }
-    requires count { CountPasses graph.now c.now }
-    requires shape { ShapePasses graph.now c.now }
-    ensures { IfOk result (IsSheafOf graph.now c.now) }
+/// The sheaf that parts write down on a graph: its stalks come from the greatest vertex down.
+fn sheaf_of(alloc: Global, graph: &MomentGraph, c: &Given) -> Result<Sheaf<PrimeField>, AllocError>
+    requires checkable { IsCheckable graph.now 1 (written_in c.now) }
+    requires count { CountPasses graph.now (written_in c.now) }
+    requires shape { ShapePasses graph.now 1 (written_in c.now) }
+    ensures { IfOk result (IsSheafOf graph.now (written_in c.now)) }
 {
-    let field = match PrimeField::new(c.job.prime) {
+    let field = match PrimeField::new(graph.prime()) {
         Ok(field) => field,
         Err(_) => unreachable!(),
     };
-    let mut sheaf = Sheaf::new(alloc, graph, field, u32::from(c.job.degree))?;
-    'parts: for i in 0..c.vertices.len() {
-        push_part(&mut sheaf, c.vertices.at(i))?;
+    let mut sheaf = Sheaf::new(alloc, graph, field, c.degree)?;
+    'parts: for i in 0..c.parts.len() {
+        push_part(&mut sheaf, c.parts.at(i))?;
     }
     Ok(sheaf)
 }
 
-/// Compares the number of vertices of a certificate with that of the graph of its job, and all sizes, before any sheaf is made. A
-/// refusal is the first comparison that fails; where none does, the certificate comes with the sheaf that it writes down.
-pub fn shape<'a>(alloc: Global, a: &'a Accepted, c: &'a Cert) -> Result<Shaped<'a>, CheckError>
-    requires accepted { IsAccepted (graph_of (prepared_of a.now)) c.now }
-    ensures whole { IfOk result IsWhole }
-    ensures graph { IfOk result (λ s. graph_in s ≡ graph_of (prepared_of a.now)) }
-    ensures cert { IfOk result (λ s. cert_in s ≡ c.now) }
-    ensures count { OnOk result (CountPasses (graph_of (prepared_of a.now)) c.now) }
-    ensures shape { OnOk result (ShapePasses (graph_of (prepared_of a.now)) c.now) }
-    ensures refused { let G = graph_of (prepared_of a.now) in
-        IfErr result (IsRefusedBy (λ r. IsCountRefusal G c.now r ⊎ (CountPasses G c.now × IsShapeRefusal G c.now r))) }
+/// Compares the number of parts with that of the vertices of the graph, and all sizes, before any sheaf is made. A refusal is the
+/// first comparison that fails; where none does, the table of sizes comes.
+pub(crate) fn check_sizes(
+    alloc: Global,
+    graph: &MomentGraph,
+    c: &Given,
+) -> Result<SizeTable, CheckError>
+    requires checkable { IsCheckable graph.now 1 (written_in c.now) }
+    ensures sizes { IfOk result (AreSizesOf graph.now (written_in c.now)) }
+    ensures count { OnOk result (CountPasses graph.now (written_in c.now)) }
+    ensures shape { OnOk result (ShapePasses graph.now 1 (written_in c.now)) }
+    ensures refused { let w = written_in c.now in
+        IfErr result (IsRefusedBy (λ r. IsCountRefusal graph.now w r ⊎ (CountPasses graph.now w × IsShapeRefusal graph.now 1 w r))) }
 {
-    let graph = a.graph();
     check_count(graph, c)?;
     let sizes = SizeTable::new(alloc, graph, c)?;
     check_shape(graph, c, &sizes)?;
+    Ok(sizes)
+}
+
+/// Parts whose number and sizes all pass, by their table of sizes, with the sheaf that they write down.
+pub(crate) fn shaped_of<'a>(
+    alloc: Global,
+    graph: &'a MomentGraph,
+    c: &Given<'a>,
+    sizes: SizeTable,
+) -> Result<Shaped<'a>, AllocError>
+    requires checkable { IsCheckable graph.now 1 (written_in c.now) }
+    requires sizes { AreSizesOf graph.now (written_in c.now) sizes }
+    requires count { CountPasses graph.now (written_in c.now) }
+    requires shape { ShapePasses graph.now 1 (written_in c.now) }
+    ensures whole { IfOk result IsWhole }
+    ensures graph { IfOk result (λ s. graph_in s ≡ graph.now) }
+    ensures cert { IfOk result (λ s. cert_in s ≡ written_in c.now) }
+{
     let sheaf = sheaf_of(alloc, graph, c)?;
     Ok(Shaped {
-        accepted: a,
-        cert: c,
+        graph,
+        given: *c,
         sizes,
         sheaf,
     })
+}
+
+/// Compares the number of parts with that of the vertices of the graph, and all sizes, before any sheaf is made. A refusal is the
+/// first comparison that fails; where none does, the parts come with the sheaf that they write down.
+pub fn shape<'a>(
+    alloc: Global,
+    graph: &'a MomentGraph,
+    c: &Given<'a>,
+) -> Result<Shaped<'a>, CheckError>
+    requires checkable { IsCheckable graph.now 1 (written_in c.now) }
+    ensures whole { IfOk result IsWhole }
+    ensures graph { IfOk result (λ s. graph_in s ≡ graph.now) }
+    ensures cert { IfOk result (λ s. cert_in s ≡ written_in c.now) }
+    ensures count { OnOk result (CountPasses graph.now (written_in c.now)) }
+    ensures shape { OnOk result (ShapePasses graph.now 1 (written_in c.now)) }
+    ensures refused { let w = written_in c.now in
+        IfErr result (IsRefusedBy (λ r. IsCountRefusal graph.now w r ⊎ (CountPasses graph.now w × IsShapeRefusal graph.now 1 w r))) }
+{
+    let sizes = check_sizes(alloc, graph, c)?;
+    let shaped = shaped_of(alloc, graph, c, sizes)?;
+    Ok(shaped)
 }

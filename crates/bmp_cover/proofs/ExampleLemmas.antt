@@ -37,6 +37,23 @@ one_monomial r = record { long = length-zeros 6; size = sum-zeros 6; past = λ k
 pub divided_at_one : (p r : ℕ) (c : ℕ → ℕ) (a : Form) → r ≤ 6 → Congruent p 6 r 0 c a (λ m. 0) → SameMod p (a (zeros 6)) 0
 divided_at_one p r c a wide h = (constant_divided p 6 r c a wide).0 h (zeros 6) (one_monomial r)
 
+-- the one generator's polynomial has the whole degree
+pub component_is : (d g s : ℕ) → HasComponent (0 ∷ []) d g s → (g ≡ 0) × (s ≡ d)
+component_is d g s has =
+    let first : g ≡ 0 = omega (arith, has.0) in
+    let sum : slice_index (0 ∷ []) 0 + s ≡ d = ap (λ k. slice_index (0 ∷ []) k + s) (sym first) ∙ has.1 in
+    let whole : 0 + s ≡ d = sum in
+    (first, omega arith)
+
+pub one_is_not_zero : (p : ℕ) → 2 ≤ p → SameMod p 1 0 → ⊥
+one_is_not_zero p least same =
+    let first : 1 % p ≡ 1 = mod-eq_of_lt (let lt : 1 < p = omega arith in lt) in
+    let none : 0 % p ≡ 0 = mod-eq_of_lt (let lt : 0 < p = omega arith in lt) in
+    apart (1 % p) (0 % p) first none same
+  where
+    apart : (a b : ℕ) → a ≡ 1 → b ≡ 0 → a ≡ b → ⊥
+    apart a b is_one is_zero same = omega arith
+
 module _ (G : Graph) (is : IsLine G) where
   pub only_edge : (e : ℕ) → e < edge_count G → e ≡ 0
   only_edge e below = omega (arith, is.one_edge)
@@ -67,7 +84,7 @@ module _ (G : Graph) (is : IsLine G) where
   other_is x below other = omega (arith, vertices_two)
 
   -- each element is reached, by the tuple of its lifts
-  always_reached : (F : SheafData) (d : ℕ) → IsReached G F 0 d
+  pub always_reached : (F : SheafData) (d : ℕ) → IsReached G F 0 d
   always_reached F d = record {
     reached = λ u. (
       (λ y. lift_of G F 0 d u),
@@ -78,14 +95,6 @@ module _ (G : Graph) (is : IsLine G) where
 
   unit_lift : (e d : ℕ) (u : Element) (h : ℕ) (m : List ℕ) → IsMonomial 6 G.rank d m → lift_of G unit_sheaf e d u h m ≡ u 0 m
   unit_lift e d u h m mono = extension_one G.rank d (λ g h m. 1) u h m ∙ product-one G.rank d (u 0) (λ m. 1) m small mono (λ n. refl)
-
-  -- the one generator's polynomial has the whole degree
-  pub component_is : (d g s : ℕ) → HasComponent (0 ∷ []) d g s → (g ≡ 0) × (s ≡ d)
-  component_is d g s has =
-      let first : g ≡ 0 = omega (arith, has.0) in
-      let sum : slice_index (0 ∷ []) 0 + s ≡ d = ap (λ k. slice_index (0 ∷ []) k + s) (sym first) ∙ has.1 in
-      let whole : 0 + s ≡ d = sum in
-      (first, omega arith)
 
   unit_lifted : (d : ℕ) → IsLifted G unit_sheaf 0 d
   unit_lifted d = record {
@@ -164,9 +173,4 @@ module _ (G : Graph) (is : IsLine G) where
   unfolding second
   surplus_not_minimal h =
       let one_is_zero : SameMod G.prime 1 0 = h.minimal second second_boundary 1 (omega arith) refl in
-      let first : 1 % G.prime ≡ 1 = mod-eq_of_lt (let lt : 1 < G.prime = omega (arith, is.prime) in lt) in
-      let none : 0 % G.prime ≡ 0 = mod-eq_of_lt (let lt : 0 < G.prime = omega (arith, is.prime) in lt) in
-      apart (1 % G.prime) (0 % G.prime) first none one_is_zero
-    where
-      apart : (a b : ℕ) → a ≡ 1 → b ≡ 0 → a ≡ b → ⊥
-      apart a b is_one is_zero same = omega arith
+      one_is_not_zero G.prime is.prime one_is_zero

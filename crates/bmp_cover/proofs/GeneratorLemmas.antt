@@ -10,7 +10,7 @@ use Rattle.bmp_poly.proofs.PlaceLemmas.{sum-zeros}
 use Rattle.bmp_graph.specs.Graph.{Graph}
 use Rattle.bmp_sheaf.specs.Sheaves.{SheafData}
 use Rattle.bmp_sheaf.specs.Coordinates.{component_count, stalk_start, stalk_count}
-use Rattle.bmp_cover.specs.Counts.{generator_count}
+use Rattle.bmp_cover.specs.Counts.{generators_in}
 use Rattle.bmp_cover.specs.Evidence.{generator_place}
 use Rattle.bmp_cover.specs.CoverChecks.{source_place}
 
@@ -54,5 +54,5 @@ module _ (F : SheafData) (x d g : ℕ) (within : g < length (F.degrees x)) where
   place_after_other other = count_by_more_no (λ e. eqb e d) (F.degrees x) g 0 within (ne_eqb (slice_index (F.degrees x) g) d other)
 
   -- a generator of degree d is one of those that are counted
-  pub place_within : slice_index (F.degrees x) g ≡ d → source_place F x d g < generator_count F x d
+  pub place_within : slice_index (F.degrees x) g ≡ d → source_place F x d g < generators_in F x d
   place_within is_new = omega (arith, place_after_new is_new, sum_by-take-le (λ e. cond (eqb e d) 1 0) (F.degrees x) (g + 1))

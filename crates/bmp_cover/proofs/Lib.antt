@@ -1,4 +1,5 @@
 mod ExampleLemmas
+mod CounterLemmas
 pub mod Soundness
 pub mod Counting
 pub mod TopCounts

@@ -1,6 +1,6 @@
 -- The number of generators, and that it is a dimension: modulo positive-degree multiples of boundaries of lower degree, the boundaries
 -- of the generators of degree d are a basis of the boundaries of sections. In the order to read:
---   generator_count F x d            how many generators of degree d the stalk at x has
+--   generators_in F x d            how many generators of degree d the stalk at x has
 --   LowTerm, low_sum                 a monomial of positive degree and a section that it takes to degree d; a sum of such multiples
 --   generator_boundary G F x d c     the sum of c g times the boundary of the generator g, over the generators g of degree d
 --   CountIsDimension G F x d         such sums and low sums give all boundaries of sections; such a sum that is a low sum's boundary has only coefficients 0
@@ -19,8 +19,8 @@ use Rattle.bmp_sheaf.specs.Elements.{monomial_times}
 use Rattle.bmp_sheaf.specs.Sheaves.{SheafData, Tuple, Boundary, boundary_of_tuple, SameBoundary}
 use Rattle.bmp_sections.specs.Sections.{IsSection, above}
 
-abbrev pub generator_count : SheafData → ℕ → ℕ → ℕ
-generator_count F x d = count_by (λ e. e == d) (F.degrees x)
+abbrev pub generators_in : SheafData → ℕ → ℕ → ℕ
+generators_in F x d = count_by (λ e. e == d) (F.degrees x)
 
 module _ (G : Graph) (F : SheafData) (x d : ℕ) where
   -- the degree of the section and that of the monomial make d

@@ -11,7 +11,7 @@ use Rattle.bmp_sheaf.specs.States.{SheafState, IsThere, sheaf_of}
 use Rattle.bmp_sections.specs.Numbers.{is_above}
 use Rattle.bmp_sections.specs.TupleLists.{TupleList}
 use Rattle.bmp_sections.specs.Indexes.{AboveIsThere}
-use Rattle.bmp_cover.specs.Counts.{generator_count}
+use Rattle.bmp_cover.specs.Counts.{generators_in}
 
 pub record HasStalks {A : Type 0} (s : SheafState A) (x d : ℕ) : Type 0 where
   pub there : IsThere s x
@@ -30,8 +30,8 @@ HasTuples s x d list = (y : ℕ) → IsTrue (is_above s.graph x y) → HasValues
 
 pub record CoverFits {A : Type 0} (s : SheafState A) (x d count : ℕ) (e : CoverEvidence) : Type 0 where
   pub covers : length e.covers ≡ count
-  pub sources : length e.sources ≡ generator_count (sheaf_of s) x d
-  pub duals : length e.duals ≡ generator_count (sheaf_of s) x d
+  pub sources : length e.sources ≡ generators_in (sheaf_of s) x d
+  pub duals : length e.duals ≡ generators_in (sheaf_of s) x d
   pub covers_fit : All (λ v. FitsBelow v (stalk_count s.graph.rank ((sheaf_of s).degrees x) d)) e.covers
   pub sources_fit : All (λ v. FitsBelow v count) e.sources
   pub duals_fit : All (λ v. FitsBelow v (boundary_count s.graph (sheaf_of s) x d)) e.duals

@@ -1,6 +1,6 @@
 //! What a comparison of the check is about.
 ghost use Rattle.std.specs.Prelude.{◌≡◌};
-ghost use Rattle.bmp_cover.specs.Kinds.{kind_name};
+ghost use Rattle.bmp_cover.specs.Kinds.{kind_name, kind_number};
 
 use std::fmt;
 
@@ -27,6 +27,13 @@ pub enum Kind {
 }
 
 impl Kind {
+    /// The number, from 0 up: comparisons are made in the order of these.
+    pub fn number(self) -> u8
+        ensures { result ≡ kind_number self }
+    {
+        self as u8
+    }
+
     /// The name, as it is printed.
     pub fn name(self) -> &'static str
         ensures { result.now ≡ kind_name self }

@@ -14,14 +14,14 @@ use Rattle.bmp_sections.specs.TupleLists.{TupleList, tuples_over}
 use Rattle.bmp_cover.specs.CoverChecks.{CoverCompares, CoverPasses, IsFirstCoverFailure}
 use Rattle.bmp_check.specs.declared.refusal.Refusal.{Refusal}
 use Rattle.bmp_check.specs.declared.scratch.BlockScratch.{BlockScratch}
-use Rattle.bmp_check.specs.ShapedViews.{graph_in, cert_in, sizes_in, sheaf_in}
+use Rattle.bmp_check.specs.ShapedViews.{written_in, graph_in, cert_in, sizes_in, sheaf_in}
 use Rattle.bmp_check.proofs.InputLemmas.{block_there, at_block, has_room, has_stalks, kernel_passes, numbers_below, kernel_fits, kernel_below, kernel_room, cover_passes, has_tuples, cover_fits, cover_room, matrix_of_rows, list_of_tuples}
 use Rattle.bmp_check.proofs.RoomLemmas.{same_room}
 use Rattle.bmp_check.proofs.block.check_block.Goals as goal
 
 pub block_of-block-requires : goal.block_of-block-requires
 block_of-block-requires c =
-    block_there (graph_in c.args.s.now) (cert_in c.args.s.now) (sizes_in c.args.s.now) (sheaf_in c.args.s.now) c.requires.whole c.args.x c.args.d c.requires.block c.cert.result.now c.part_of.result.now c.cert.ensures c.part_of.ensures
+    block_there (graph_in c.args.s.now) (cert_in c.args.s.now) (sizes_in c.args.s.now) (sheaf_in c.args.s.now) c.requires.whole c.args.x c.args.d c.requires.block (written_in c.given.result.now) c.part_of.result.now c.given.ensures c.part_of.ensures
 
 pub fill-requires-clause-there : goal.fill-requires-clause-there
 fill-requires-clause-there c =
@@ -32,7 +32,7 @@ fill-requires-clause-there c =
     let d = c.args.d in
     let own = c.block_of-block.result.now in
     let at =
-    at_block G cert (sizes_in c.args.s.now) (sheaf_in c.args.s.now) c.requires.whole x d c.requires.block s c.cert.result.now c.part_of.result.now own c.sheaf-sheaf.ensures c.cert.ensures
+    at_block G cert (sizes_in c.args.s.now) (sheaf_in c.args.s.now) c.requires.whole x d c.requires.block s (written_in c.given.result.now) c.part_of.result.now own c.sheaf-sheaf.ensures c.given.ensures
     c.part_of.ensures c.block_of-block.ensures in
     (has_stalks G cert s x d own at).above
 
@@ -45,7 +45,7 @@ fill-requires-clause-room c =
     let d = c.args.d in
     let own = c.block_of-block.result.now in
     let at =
-    at_block G cert (sizes_in c.args.s.now) (sheaf_in c.args.s.now) c.requires.whole x d c.requires.block s c.cert.result.now c.part_of.result.now own c.sheaf-sheaf.ensures c.cert.ensures
+    at_block G cert (sizes_in c.args.s.now) (sheaf_in c.args.s.now) c.requires.whole x d c.requires.block s (written_in c.given.result.now) c.part_of.result.now own c.sheaf-sheaf.ensures c.given.ensures
     c.part_of.ensures c.block_of-block.ensures in
     has_room G cert s x d own at c.args.scratch.now c.requires.room
 
@@ -58,7 +58,7 @@ check_kernel-requires-clause-numbers c =
     let d = c.args.d in
     let own = c.block_of-block.result.now in
     let at =
-    at_block G cert (sizes_in c.args.s.now) (sheaf_in c.args.s.now) c.requires.whole x d c.requires.block s c.cert.result.now c.part_of.result.now own c.sheaf-sheaf.ensures c.cert.ensures
+    at_block G cert (sizes_in c.args.s.now) (sheaf_in c.args.s.now) c.requires.whole x d c.requires.block s (written_in c.given.result.now) c.part_of.result.now own c.sheaf-sheaf.ensures c.given.ensures
     c.part_of.ensures c.block_of-block.ensures in
     let rows = c.over-equations.result in
     let p = c.field.result.now.prime in
@@ -76,7 +76,7 @@ check_kernel-requires-clause-fits c =
     let d = c.args.d in
     let own = c.block_of-block.result.now in
     let at =
-    at_block G cert (sizes_in c.args.s.now) (sheaf_in c.args.s.now) c.requires.whole x d c.requires.block s c.cert.result.now c.part_of.result.now own c.sheaf-sheaf.ensures c.cert.ensures
+    at_block G cert (sizes_in c.args.s.now) (sheaf_in c.args.s.now) c.requires.whole x d c.requires.block s (written_in c.given.result.now) c.part_of.result.now own c.sheaf-sheaf.ensures c.given.ensures
     c.part_of.ensures c.block_of-block.ensures in
     let rows = c.over-equations.result in
     let p = c.field.result.now.prime in
@@ -94,7 +94,7 @@ check_kernel-requires-clause-values c =
     let d = c.args.d in
     let own = c.block_of-block.result.now in
     let at =
-    at_block G cert (sizes_in c.args.s.now) (sheaf_in c.args.s.now) c.requires.whole x d c.requires.block s c.cert.result.now c.part_of.result.now own c.sheaf-sheaf.ensures c.cert.ensures
+    at_block G cert (sizes_in c.args.s.now) (sheaf_in c.args.s.now) c.requires.whole x d c.requires.block s (written_in c.given.result.now) c.part_of.result.now own c.sheaf-sheaf.ensures c.given.ensures
     c.part_of.ensures c.block_of-block.ensures in
     let rows = c.over-equations.result in
     let p = c.field.result.now.prime in
@@ -112,7 +112,7 @@ check_kernel-requires-clause-room c =
     let d = c.args.d in
     let own = c.block_of-block.result.now in
     let at =
-    at_block G cert (sizes_in c.args.s.now) (sheaf_in c.args.s.now) c.requires.whole x d c.requires.block s c.cert.result.now c.part_of.result.now own c.sheaf-sheaf.ensures c.cert.ensures
+    at_block G cert (sizes_in c.args.s.now) (sheaf_in c.args.s.now) c.requires.whole x d c.requires.block s (written_in c.given.result.now) c.part_of.result.now own c.sheaf-sheaf.ensures c.given.ensures
     c.part_of.ensures c.block_of-block.ensures in
     let rows = c.over-equations.result in
     let p = c.field.result.now.prime in
@@ -130,7 +130,7 @@ returns-in-Err-clause-first c =
     let d = c.args.d in
     let own = c.block_of-block.result.now in
     let at =
-    at_block G cert (sizes_in c.args.s.now) (sheaf_in c.args.s.now) c.requires.whole x d c.requires.block s c.cert.result.now c.part_of.result.now own c.sheaf-sheaf.ensures c.cert.ensures
+    at_block G cert (sizes_in c.args.s.now) (sheaf_in c.args.s.now) c.requires.whole x d c.requires.block s (written_in c.given.result.now) c.part_of.result.now own c.sheaf-sheaf.ensures c.given.ensures
     c.part_of.ensures c.block_of-block.ensures in
     let rows = c.over-equations.result in
     let p = c.field.result.now.prime in
@@ -152,7 +152,7 @@ returns-in-Err-clause-differ c =
     let d = c.args.d in
     let own = c.block_of-block.result.now in
     let at =
-    at_block G cert (sizes_in c.args.s.now) (sheaf_in c.args.s.now) c.requires.whole x d c.requires.block s c.cert.result.now c.part_of.result.now own c.sheaf-sheaf.ensures c.cert.ensures
+    at_block G cert (sizes_in c.args.s.now) (sheaf_in c.args.s.now) c.requires.whole x d c.requires.block s (written_in c.given.result.now) c.part_of.result.now own c.sheaf-sheaf.ensures c.given.ensures
     c.part_of.ensures c.block_of-block.ensures in
     let fault = c.in-Err.fault in
     let counted = c.from.ensures ∙ c.len.ensures ∙ ap (λ (b : DegreeBlock). length b.kernel.basis) at.is in
@@ -173,7 +173,7 @@ check_cover-requires-clause-stalks c =
     let d = c.args.d in
     let own = c.block_of-block.result.now in
     let at =
-    at_block G cert (sizes_in c.args.s.now) (sheaf_in c.args.s.now) c.requires.whole x d c.requires.block s c.cert.result.now c.part_of.result.now own c.sheaf-sheaf.ensures c.cert.ensures
+    at_block G cert (sizes_in c.args.s.now) (sheaf_in c.args.s.now) c.requires.whole x d c.requires.block s (written_in c.given.result.now) c.part_of.result.now own c.sheaf-sheaf.ensures c.given.ensures
     c.part_of.ensures c.block_of-block.ensures in
     has_stalks G cert s x d own at
 
@@ -186,7 +186,7 @@ check_cover-requires-clause-tuples c =
     let d = c.args.d in
     let own = c.block_of-block.result.now in
     let at =
-    at_block G cert (sizes_in c.args.s.now) (sheaf_in c.args.s.now) c.requires.whole x d c.requires.block s c.cert.result.now c.part_of.result.now own c.sheaf-sheaf.ensures c.cert.ensures
+    at_block G cert (sizes_in c.args.s.now) (sheaf_in c.args.s.now) c.requires.whole x d c.requires.block s (written_in c.given.result.now) c.part_of.result.now own c.sheaf-sheaf.ensures c.given.ensures
     c.part_of.ensures c.block_of-block.ensures in
     let tuples = c.over-tuples.result in
     let over = c.graph-graph.ensures.state.over in
@@ -203,7 +203,7 @@ check_cover-requires-clause-fits c =
     let d = c.args.d in
     let own = c.block_of-block.result.now in
     let at =
-    at_block G cert (sizes_in c.args.s.now) (sheaf_in c.args.s.now) c.requires.whole x d c.requires.block s c.cert.result.now c.part_of.result.now own c.sheaf-sheaf.ensures c.cert.ensures
+    at_block G cert (sizes_in c.args.s.now) (sheaf_in c.args.s.now) c.requires.whole x d c.requires.block s (written_in c.given.result.now) c.part_of.result.now own c.sheaf-sheaf.ensures c.given.ensures
     c.part_of.ensures c.block_of-block.ensures in
     let tuples = c.over-tuples.result in
     let over = c.graph-graph.ensures.state.over in
@@ -220,7 +220,7 @@ check_cover-requires-clause-room c =
     let d = c.args.d in
     let own = c.block_of-block.result.now in
     let at =
-    at_block G cert (sizes_in c.args.s.now) (sheaf_in c.args.s.now) c.requires.whole x d c.requires.block s c.cert.result.now c.part_of.result.now own c.sheaf-sheaf.ensures c.cert.ensures
+    at_block G cert (sizes_in c.args.s.now) (sheaf_in c.args.s.now) c.requires.whole x d c.requires.block s (written_in c.given.result.now) c.part_of.result.now own c.sheaf-sheaf.ensures c.given.ensures
     c.part_of.ensures c.block_of-block.ensures in
     cover_room G cert s x d own at c.args.scratch.now (length c.check_kernel.new.s.first) c.requires.room (omega (arith, c.check_kernel.ensures.scratch))
 
@@ -233,7 +233,7 @@ returns-in-Ok-clause-ok c =
     let d = c.args.d in
     let own = c.block_of-block.result.now in
     let at =
-    at_block G cert (sizes_in c.args.s.now) (sheaf_in c.args.s.now) c.requires.whole x d c.requires.block s c.cert.result.now c.part_of.result.now own c.sheaf-sheaf.ensures c.cert.ensures
+    at_block G cert (sizes_in c.args.s.now) (sheaf_in c.args.s.now) c.requires.whole x d c.requires.block s (written_in c.given.result.now) c.part_of.result.now own c.sheaf-sheaf.ensures c.given.ensures
     c.part_of.ensures c.block_of-block.ensures in
     let rows = c.over-equations.result in
     let p = c.field.result.now.prime in
@@ -262,7 +262,7 @@ returns-in-Err-check_cover-clause-first c =
     let d = c.args.d in
     let own = c.block_of-block.result.now in
     let at =
-    at_block G cert (sizes_in c.args.s.now) (sheaf_in c.args.s.now) c.requires.whole x d c.requires.block s c.cert.result.now c.part_of.result.now own c.sheaf-sheaf.ensures c.cert.ensures
+    at_block G cert (sizes_in c.args.s.now) (sheaf_in c.args.s.now) c.requires.whole x d c.requires.block s (written_in c.given.result.now) c.part_of.result.now own c.sheaf-sheaf.ensures c.given.ensures
     c.part_of.ensures c.block_of-block.ensures in
     let rows = c.over-equations.result in
     let p = c.field.result.now.prime in

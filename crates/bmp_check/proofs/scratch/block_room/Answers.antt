@@ -15,7 +15,7 @@ each-preserved c =
     let n = c.vertices-vertices.result in
     let D = c.degree-degree.result in
     let vertices : n ≡ vertex_count G = c.vertices-vertices.ensures.count ∙ ap (λ (H : Graph). vertex_count H) c.graph-graph.ensures in
-    let bound : D ≡ cert.job.degree = c.degree-degree.ensures.degree ∙ ap (λ (s : SheafState PrimeField). s.degree) c.sheaf.ensures ∙ c.requires.sheaf.degree in
+    let bound : D ≡ cert.degree = c.degree-degree.ensures.degree ∙ ap (λ (s : SheafState PrimeField). s.degree) c.sheaf.ensures ∙ c.requires.sheaf.degree in
     let x = c.block_at-x.result.0 in
     let d = c.block_at-x.result.1 in
     let equations = c.max-equations.result in
@@ -35,7 +35,7 @@ returns-clause-equations c =
     let n = c.vertices-vertices.result in
     let D = c.degree-degree.result in
     let vertices : n ≡ vertex_count G = c.vertices-vertices.ensures.count ∙ ap (λ (H : Graph). vertex_count H) c.graph-graph.ensures in
-    let bound : D ≡ cert.job.degree = c.degree-degree.ensures.degree ∙ ap (λ (s : SheafState PrimeField). s.degree) c.sheaf.ensures ∙ c.requires.sheaf.degree in
+    let bound : D ≡ cert.degree = c.degree-degree.ensures.degree ∙ ap (λ (s : SheafState PrimeField). s.degree) c.sheaf.ensures ∙ c.requires.sheaf.degree in
     λ x d block.
     (blocks_all G cert (IsWithin G cert c.each.equations c.each.most) n D c.each.i vertices bound c.each.invariant (omega (arith, c.each-test.false, c.block_count-i-end.ensures.count)) x d block).0
 
@@ -46,6 +46,6 @@ returns-clause-sizes c =
     let n = c.vertices-vertices.result in
     let D = c.degree-degree.result in
     let vertices : n ≡ vertex_count G = c.vertices-vertices.ensures.count ∙ ap (λ (H : Graph). vertex_count H) c.graph-graph.ensures in
-    let bound : D ≡ cert.job.degree = c.degree-degree.ensures.degree ∙ ap (λ (s : SheafState PrimeField). s.degree) c.sheaf.ensures ∙ c.requires.sheaf.degree in
+    let bound : D ≡ cert.degree = c.degree-degree.ensures.degree ∙ ap (λ (s : SheafState PrimeField). s.degree) c.sheaf.ensures ∙ c.requires.sheaf.degree in
     λ x d block.
     (blocks_all G cert (IsWithin G cert c.each.equations c.each.most) n D c.each.i vertices bound c.each.invariant (omega (arith, c.each-test.false, c.block_count-i-end.ensures.count)) x d block).1

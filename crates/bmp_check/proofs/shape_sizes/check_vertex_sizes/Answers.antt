@@ -7,13 +7,14 @@ use Rattle.bmp_check.specs.Sizes.{is, at_most, listed, lift_size, vertex_sizes}
 use Rattle.bmp_check.specs.SizeChecks.{first_of}
 use Rattle.bmp_check.proofs.LiftLemmas.{LiftAt, StandsIn, lift_here, lift_stands, edges_as, length-listed}
 use Rattle.bmp_check.proofs.SizeCheckLemmas.{Passed, exit_compares, goes_on, stops, passed_all, passed_more, failed_at, then_passed}
+use Rattle.bmp_check.specs.ShapedViews.{written_in}
 use Rattle.bmp_check.proofs.shape_sizes.check_vertex_sizes.Goals as goal
 
 pub lift_room-room-requires-clause-generators : goal.lift_room-room-requires-clause-generators
 lift_room-room-requires-clause-generators c =
     let G = c.args.graph.now in
-    let cert = c.args.c.now in
-    let here : LiftAt c.part_of-part.result.now cert.job.degree c.up-first.result.0 c.up-first.result.1 c.lifts.i =
+    let cert = written_in c.args.c.now in
+    let here : LiftAt c.part_of-part.result.now cert.degree c.up-first.result.0 c.up-first.result.1 c.lifts.i =
     lift_here G cert c.args.table.now c.args.x c.up-first.result.0 c.up-first.result.1 c.part_of-part.result.now c.requires.ready c.up-first.ensures.graph c.up-first.ensures.range c.requires.vertex c.part_of-part.ensures
     (omega (arith, c.from.ensures, c.from-2.ensures, c.in_ok-is.ensures.equal)) c.lifts.i (omega (arith, c.lifts-test.true, c.len-i-end.ensures)) in
     here.some
@@ -21,8 +22,8 @@ lift_room-room-requires-clause-generators c =
 pub lift_room-room-requires-clause-edge : goal.lift_room-room-requires-clause-edge
 lift_room-room-requires-clause-edge c =
     let G = c.args.graph.now in
-    let cert = c.args.c.now in
-    let here : LiftAt c.part_of-part.result.now cert.job.degree c.up-first.result.0 c.up-first.result.1 c.lifts.i =
+    let cert = written_in c.args.c.now in
+    let here : LiftAt c.part_of-part.result.now cert.degree c.up-first.result.0 c.up-first.result.1 c.lifts.i =
     lift_here G cert c.args.table.now c.args.x c.up-first.result.0 c.up-first.result.1 c.part_of-part.result.now c.requires.ready c.up-first.ensures.graph c.up-first.ensures.range c.requires.vertex c.part_of-part.ensures
     (omega (arith, c.from.ensures, c.from-2.ensures, c.in_ok-is.ensures.equal)) c.lifts.i (omega (arith, c.lifts-test.true, c.len-i-end.ensures)) in
     omega (arith, here.edge, c.up-first.ensures.range.within)
@@ -30,8 +31,8 @@ lift_room-room-requires-clause-edge c =
 pub lift_room-room-requires-clause-fits : goal.lift_room-room-requires-clause-fits
 lift_room-room-requires-clause-fits c =
     let G = c.args.graph.now in
-    let cert = c.args.c.now in
-    let here : LiftAt c.part_of-part.result.now cert.job.degree c.up-first.result.0 c.up-first.result.1 c.lifts.i =
+    let cert = written_in c.args.c.now in
+    let here : LiftAt c.part_of-part.result.now cert.degree c.up-first.result.0 c.up-first.result.1 c.lifts.i =
     lift_here G cert c.args.table.now c.args.x c.up-first.result.0 c.up-first.result.1 c.part_of-part.result.now c.requires.ready c.up-first.ensures.graph c.up-first.ensures.range c.requires.vertex c.part_of-part.ensures
     (omega (arith, c.from.ensures, c.from-2.ensures, c.in_ok-is.ensures.equal)) c.lifts.i (omega (arith, c.lifts-test.true, c.len-i-end.ensures)) in
     omega (arith, here.edge)
@@ -39,8 +40,8 @@ lift_room-room-requires-clause-fits c =
 pub lift_room-room-requires-clause-degree : goal.lift_room-room-requires-clause-degree
 lift_room-room-requires-clause-degree c =
     let G = c.args.graph.now in
-    let cert = c.args.c.now in
-    let here : LiftAt c.part_of-part.result.now cert.job.degree c.up-first.result.0 c.up-first.result.1 c.lifts.i =
+    let cert = written_in c.args.c.now in
+    let here : LiftAt c.part_of-part.result.now cert.degree c.up-first.result.0 c.up-first.result.1 c.lifts.i =
     lift_here G cert c.args.table.now c.args.x c.up-first.result.0 c.up-first.result.1 c.part_of-part.result.now c.requires.ready c.up-first.ensures.graph c.up-first.ensures.range c.requires.vertex c.part_of-part.ensures
     (omega (arith, c.from.ensures, c.from-2.ensures, c.in_ok-is.ensures.equal)) c.lifts.i (omega (arith, c.lifts-test.true, c.len-i-end.ensures)) in
     omega (arith, here.most, c.requires.ready.of.stalks.width)
@@ -48,7 +49,7 @@ lift_room-room-requires-clause-degree c =
 pub lifts-preserved : goal.lifts-preserved
 lifts-preserved c =
     let G = c.args.graph.now in
-    let cert = c.args.c.now in
+    let cert = written_in c.args.c.now in
     let lifts = listed (lift_size G cert c.args.x) (length (part_of cert c.args.x).lifts) in
     let size = at_most c.need.result c.lift_room-room.result in
     let stands : StandsIn lifts c.lifts.i size =
@@ -63,7 +64,7 @@ lifts-preserved c =
 pub returns-in_err-is-clause-compares : goal.returns-in_err-is-clause-compares
 returns-in_err-is-clause-compares c =
     let G = c.args.graph.now in
-    let cert = c.args.c.now in
+    let cert = written_in c.args.c.now in
     let own = is (part_of cert c.args.x).edges (up_count G c.args.x) ∷ [] in
     let r = c.in_err-is.field-0.0 in
     let lifts = listed (lift_size G cert c.args.x) (length (part_of cert c.args.x).lifts) in
@@ -76,7 +77,7 @@ returns-in_err-is-clause-compares c =
 pub returns-in_err-at_most-clause-compares : goal.returns-in_err-at_most-clause-compares
 returns-in_err-at_most-clause-compares c =
     let G = c.args.graph.now in
-    let cert = c.args.c.now in
+    let cert = written_in c.args.c.now in
     let lifts = listed (lift_size G cert c.args.x) (length (part_of cert c.args.x).lifts) in
     let size = at_most c.need.result c.lift_room-room.result in
     let stands : StandsIn lifts c.lifts.i size =
@@ -96,7 +97,7 @@ returns-in_err-at_most-clause-compares c =
 pub returns-clause-compares : goal.returns-clause-compares
 returns-clause-compares c =
     let G = c.args.graph.now in
-    let cert = c.args.c.now in
+    let cert = written_in c.args.c.now in
     let own = is (part_of cert c.args.x).edges (up_count G c.args.x) ∷ [] in
     let passes : Passed c.args.at.now c.is.new.self own =
     edges_as G cert c.args.table.now c.args.x c.up-first.result.0 c.up-first.result.1 c.part_of-part.result.now c.requires.ready c.up-first.ensures.graph c.up-first.ensures.range c.requires.vertex c.part_of-part.ensures

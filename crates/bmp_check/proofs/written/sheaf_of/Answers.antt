@@ -4,53 +4,54 @@ use Rattle.bmp_field.specs.declared.prime.PrimeField.{PrimeField}
 use Rattle.bmp_graph.specs.Graph.{Graph}
 use Rattle.bmp_sheaf.specs.States.{SheafState}
 use Rattle.bmp_cert.specs.Counts.{no_part}
-use Rattle.bmp_check.specs.Accepted.{IsAccepted}
+use Rattle.bmp_check.specs.Accepted.{IsCheckable}
 use Rattle.bmp_check.specs.Fits.{ShapesFit}
 use Rattle.bmp_check.specs.Verdicts.{CountPasses}
 use Rattle.bmp_check.proofs.FitLemmas.{shape_fits}
 use Rattle.bmp_check.proofs.StalkLemmas.{own_is_stalk, own_below, stalks_more}
+use Rattle.bmp_check.specs.ShapedViews.{written_in}
 use Rattle.bmp_check.proofs.written.sheaf_of.Goals as goal
 
 pub push_part-requires-clause-values : goal.push_part-requires-clause-values
 push_part-requires-clause-values c =
     let so_far = c.parts.invariant in
     let s = c.parts.sheaf in
-    let cert = c.args.c.now in
-    let accepted : IsAccepted s.graph cert = subst (λ (G : Graph). IsAccepted G cert) (sym so_far.graph) c.requires.accepted in
+    let cert = written_in c.args.c.now in
+    let checkable : IsCheckable s.graph 1 cert = subst (λ (G : Graph). IsCheckable G 1 cert) (sym so_far.graph) c.requires.checkable in
     let counted : CountPasses s.graph cert = subst (λ (G : Graph). CountPasses G cert) (sym so_far.graph) c.requires.count in
     let fits : ShapesFit s.graph cert =
-    subst (λ (G : Graph). ShapesFit G cert) (sym so_far.graph) (shape_fits c.args.graph.now cert c.requires.accepted.formed c.requires.count c.requires.shape) in
-    let more : c.parts.i < length cert.vertices = omega arith in
-    let read : get_or cert.vertices c.parts.i no_part ≡ c.at.result.now = get_or_from_slice_get cert.vertices c.parts.i c.at.result.now no_part c.at.ensures in
-    own_below s cert accepted counted fits so_far.degree c.parts.i so_far.stalks more c.at.result.now read
+    subst (λ (G : Graph). ShapesFit G cert) (sym so_far.graph) (shape_fits c.args.graph.now cert c.requires.checkable.formed c.requires.count c.requires.shape) in
+    let more : c.parts.i < length cert.parts = omega arith in
+    let read : get_or cert.parts c.parts.i no_part ≡ c.at.result.now = get_or_from_slice_get cert.parts c.parts.i c.at.result.now no_part c.at.ensures in
+    own_below s cert checkable counted fits so_far.degree c.parts.i so_far.stalks more c.at.result.now read
 
 pub push_part-requires-clause-stalk : goal.push_part-requires-clause-stalk
 push_part-requires-clause-stalk c =
     let so_far = c.parts.invariant in
     let s = c.parts.sheaf in
-    let cert = c.args.c.now in
-    let accepted : IsAccepted s.graph cert = subst (λ (G : Graph). IsAccepted G cert) (sym so_far.graph) c.requires.accepted in
+    let cert = written_in c.args.c.now in
+    let checkable : IsCheckable s.graph 1 cert = subst (λ (G : Graph). IsCheckable G 1 cert) (sym so_far.graph) c.requires.checkable in
     let counted : CountPasses s.graph cert = subst (λ (G : Graph). CountPasses G cert) (sym so_far.graph) c.requires.count in
     let fits : ShapesFit s.graph cert =
-    subst (λ (G : Graph). ShapesFit G cert) (sym so_far.graph) (shape_fits c.args.graph.now cert c.requires.accepted.formed c.requires.count c.requires.shape) in
-    let more : c.parts.i < length cert.vertices = omega arith in
-    let read : get_or cert.vertices c.parts.i no_part ≡ c.at.result.now = get_or_from_slice_get cert.vertices c.parts.i c.at.result.now no_part c.at.ensures in
-    own_is_stalk s cert accepted counted fits so_far.degree c.parts.i so_far.stalks more c.at.result.now read
+    subst (λ (G : Graph). ShapesFit G cert) (sym so_far.graph) (shape_fits c.args.graph.now cert c.requires.checkable.formed c.requires.count c.requires.shape) in
+    let more : c.parts.i < length cert.parts = omega arith in
+    let read : get_or cert.parts c.parts.i no_part ≡ c.at.result.now = get_or_from_slice_get cert.parts c.parts.i c.at.result.now no_part c.at.ensures in
+    own_is_stalk s cert checkable counted fits so_far.degree c.parts.i so_far.stalks more c.at.result.now read
 
 pub parts-preserved : goal.parts-preserved
 parts-preserved c =
     let so_far = c.parts.invariant in
     let s = c.parts.sheaf in
-    let cert = c.args.c.now in
-    let accepted : IsAccepted s.graph cert = subst (λ (G : Graph). IsAccepted G cert) (sym so_far.graph) c.requires.accepted in
+    let cert = written_in c.args.c.now in
+    let checkable : IsCheckable s.graph 1 cert = subst (λ (G : Graph). IsCheckable G 1 cert) (sym so_far.graph) c.requires.checkable in
     let counted : CountPasses s.graph cert = subst (λ (G : Graph). CountPasses G cert) (sym so_far.graph) c.requires.count in
     let fits : ShapesFit s.graph cert =
-    subst (λ (G : Graph). ShapesFit G cert) (sym so_far.graph) (shape_fits c.args.graph.now cert c.requires.accepted.formed c.requires.count c.requires.shape) in
-    let more : c.parts.i < length cert.vertices = omega arith in
-    let read : get_or cert.vertices c.parts.i no_part ≡ c.at.result.now = get_or_from_slice_get cert.vertices c.parts.i c.at.result.now no_part c.at.ensures in
+    subst (λ (G : Graph). ShapesFit G cert) (sym so_far.graph) (shape_fits c.args.graph.now cert c.requires.checkable.formed c.requires.count c.requires.shape) in
+    let more : c.parts.i < length cert.parts = omega arith in
+    let read : get_or cert.parts c.parts.i no_part ≡ c.at.result.now = get_or_from_slice_get cert.parts c.parts.i c.at.result.now no_part c.at.ensures in
     let pushed = c.in_ok-push_part.ensures in
     record {
       graph = ap (λ (t : SheafState PrimeField). t.graph) pushed ∙ so_far.graph;
       degree = ap (λ (t : SheafState PrimeField). t.degree) pushed ∙ so_far.degree;
-      stalks = ap (λ (t : SheafState PrimeField). t.stalks) pushed ∙ stalks_more s cert accepted counted fits so_far.degree c.parts.i so_far.stalks more c.at.result.now read;
+      stalks = ap (λ (t : SheafState PrimeField). t.stalks) pushed ∙ stalks_more s cert checkable counted fits so_far.degree c.parts.i so_far.stalks more c.at.result.now read;
     }
