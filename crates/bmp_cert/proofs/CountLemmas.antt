@@ -3,8 +3,7 @@ use Rattle.std.proofs.Common.{◌==◌, count_by, ◌≡◌, ℕ, zero, suc, ◌
 use Rattle.std.proofs.lemmas.Bool.{cases_lt}
 use Rattle.std.proofs.lemmas.List.{length-append, get_or_append_left, get_or-append_right}
 use Rattle.std.proofs.lemmas.Nat.{mul-le}
-use Rattle.bmp_cert.specs.declared.cert.Cert.{Cert}
-use Rattle.bmp_cert.specs.Counts.{RankTable, part_of, generator_count, IsRanksOf, counts_below, all_counts}
+use Rattle.bmp_cert.specs.Counts.{Written, RankTable, part_of, generator_count, IsRanksOf, counts_below, all_counts}
 
 pub place_below : (x v d g : ℕ) → x < v → d < g → x * g + d < v * g
 place_below x v d g h k =
@@ -16,10 +15,10 @@ pub length-counts_below : (degrees : List ℕ) (n : ℕ) → length (counts_belo
 length-counts_below degrees zero = refl
 length-counts_below degrees (suc n) = omega (arith, length-append (counts_below degrees n) (count_by (λ e. e == n) degrees ∷ []), length-counts_below degrees n)
 
-pub length-all_counts : (c : Cert) (n : ℕ) → length (all_counts c n) ≡ n * (c.job.degree + 1)
+pub length-all_counts : (c : Written) (n : ℕ) → length (all_counts c n) ≡ n * (c.degree + 1)
 length-all_counts c zero = grind arith
 length-all_counts c (suc n) =
-    let g = c.job.degree + 1 in
+    let g = c.degree + 1 in
     let both = length-append (all_counts c n) (counts_below (part_of c n).degrees g) in
     let front = length-all_counts c n in
     let back = length-counts_below (part_of c n).degrees g in
@@ -36,10 +35,10 @@ get-counts_below degrees (suc n) d h = elim (cases_lt d n) [
       ∙ (ap (λ (k : ℕ). get_or (count_by (λ e. e == n) degrees ∷ []) k 0) none ∙ ap (λ (k : ℕ). count_by (λ e. e == k) degrees) is))
 ]
 
-get-all_counts : (c : Cert) (n x d : ℕ) → x < n → d ≤ c.job.degree → get_or (all_counts c n) (x * (c.job.degree + 1) + d) 0 ≡ generator_count c x d
+get-all_counts : (c : Written) (n x d : ℕ) → x < n → d ≤ c.degree → get_or (all_counts c n) (x * (c.degree + 1) + d) 0 ≡ generator_count c x d
 get-all_counts c zero x d h k = absurd (omega arith)
 get-all_counts c (suc n) x d h k =
-    let g = c.job.degree + 1 in
+    let g = c.degree + 1 in
     let more = counts_below (part_of c n).degrees g in
     elim (cases_lt x n) [
       | inl lt ↦ (let front : x * g + d < length (all_counts c n) = omega (arith, length-all_counts c n, place_below x n d g lt (omega arith)) in
@@ -50,9 +49,9 @@ get-all_counts c (suc n) x d h k =
           ∙ (ap (λ (i : ℕ). get_or more i 0) left ∙ (get-counts_below (part_of c n).degrees g d (omega arith) ∙ ap (λ (y : ℕ). generator_count c y d) is)))
     ]
 
-pub ranks_of : (c : Cert) (r : RankTable) → r.vertices ≡ length c.vertices → r.degree ≡ c.job.degree → r.numbers ≡ all_counts c (length c.vertices) → IsRanksOf c r
+pub ranks_of : (c : Written) (r : RankTable) → r.vertices ≡ length c.parts → r.degree ≡ c.degree → r.numbers ≡ all_counts c (length c.parts) → IsRanksOf c r
 ranks_of c r v e n = record {
   vertices = v;
   degree = e;
-  numbers = λ x d h k. ap (λ (g : ℕ). get_or r.numbers (x * (g + 1) + d) 0) e ∙ (ap (λ (ns : List ℕ). get_or ns (x * (c.job.degree + 1) + d) 0) n ∙ get-all_counts c (length c.vertices) x d h k);
+  numbers = λ x d h k. ap (λ (g : ℕ). get_or r.numbers (x * (g + 1) + d) 0) e ∙ (ap (λ (ns : List ℕ). get_or ns (x * (c.degree + 1) + d) 0) n ∙ get-all_counts c (length c.parts) x d h k);
 }

@@ -1,7 +1,12 @@
 -- The graph of a job is one: where two edges at a vertex are parallel, no graph of the job has the GKM condition.
+-- And what a prepared job keeps, with the GKM condition, are all rules.
 use Rattle.std.proofs.Common.{◌≡◌, ℕ, List, sym, ◌∙◌, subst, arith}
+use Rattle.std.proofs.Math.Logic.{∥∥₁_elim, ∥∥₁_prop}
 use Rattle.bmp_weyl.specs.declared.elem.Elem.{Elem}
+use Rattle.bmp_interval.specs.IntervalViews.{system_of, vertices_of}
+use Rattle.bmp_interval.specs.declared.interval.Interval.{Interval}
 use Rattle.bmp_interval.proofs.OneInterval.{one_interval_of}
+use Rattle.bmp_bruhat.specs.Labels.{root_form}
 use Rattle.bmp_bruhat.specs.Edges.{IsBruhatGraph}
 use Rattle.bmp_bruhat.proofs.OneGraph.{graph_is_one}
 use Rattle.bmp_graph.specs.Graph.{Graph, HasGkm}
@@ -9,15 +14,15 @@ use Rattle.bmp_graph.specs.Faults.{IsFirstParallelPair}
 use Rattle.bmp_graph.specs.declared.fault.GkmPair.{GkmPair}
 use Rattle.bmp_cert.specs.declared.job.Job.{Job}
 use Rattle.bmp_cert.specs.declared.job_fault.JobFault.TheVariants.{Gkm}
-use Rattle.bmp_cert.specs.JobGraphs.{IsJobGraph}
-use Rattle.bmp_cert.specs.JobRules.{KeepsFirstRules, IsFirstFault}
+use Rattle.bmp_cert.specs.JobGraphs.{IsJobGraph, IsPrepared}
+use Rattle.bmp_cert.specs.JobRules.{KeepsFirstRules, KeepsRules, IsFirstFault}
 
 pub one_graph : (j : Job) (g h : Graph) → IsJobGraph j g → IsJobGraph j h → g ≡ h
 one_graph j g h of_g of_h =
     let same = of_g.system.matrix ∙ sym of_h.system.matrix in
     let list : of_h.vertices ≡ of_g.vertices = one_interval_of of_h.roots of_g.roots (sym same) j.word of_h.vertices of_g.vertices of_h.interval of_g.interval in
-    graph_is_one of_g.roots of_h.roots same of_g.vertices j.prime g h of_g.bruhat
-    (subst (λ (vertices : List Elem). IsBruhatGraph of_h.roots vertices j.prime h) list of_h.bruhat) of_g.graph of_h.graph
+    graph_is_one of_g.roots of_h.roots same of_g.vertices j.prime root_form g h of_g.bruhat
+    (subst (λ (vertices : List Elem). IsBruhatGraph of_h.roots vertices j.prime root_form h) list of_h.bruhat) of_g.graph of_h.graph
 
 pair_fails : (g : Graph) (x d e : ℕ) → IsFirstParallelPair g x d e → HasGkm g → ⊥
 pair_fails g x d e first holds =
@@ -31,3 +36,18 @@ gkm_fault j g p kept of_g first = record {
   broken = λ (h, of_h, holds). pair_fails g p.vertex p.first p.second first (subst (λ (k : Graph). HasGkm k) (one_graph j h g of_h of_g) holds);
   values = (g, of_g, first);
 }
+
+-- ---- what is kept with a job
+
+pub prepared_graph : (j : Job) (interval : Interval) (g : Graph) → IsPrepared j interval g → IsJobGraph j g
+prepared_graph j interval g p = record {
+  roots = system_of interval;
+  vertices = vertices_of interval;
+  system = p.system;
+  interval = p.interval_is;
+  bruhat = p.bruhat;
+  graph = p.graph;
+}
+
+pub kept_rules : (j : Job) (interval : Interval) (g : Graph) → ∥ KeepsFirstRules j ∥₁ → ∥ IsPrepared j interval g ∥₁ → HasGkm g → ∥ KeepsRules j ∥₁
+kept_rules j interval g kept prepared gkm = ∥∥₁_elim kept ∥∥₁_prop (λ k. ∥∥₁_elim prepared ∥∥₁_prop (λ p. ∣ (k, (g, prepared_graph j interval g p, gkm)) ∣₁))

@@ -11,7 +11,9 @@ use Rattle.bmp_weyl.specs.Words.{IsWord, IsReduced, length_of}
 use Rattle.bmp_weyl.specs.Elements.{word_of}
 use Rattle.bmp_weyl.specs.declared.elem.Elem.{Elem}
 use Rattle.bmp_interval.specs.Vertices.{HasVertices, HasMoreVertices}
+use Rattle.bmp_interval.specs.Limits.{max_vertices}
 use Rattle.bmp_interval.specs.Intervals.{IsIntervalOf, IsFault}
+use Rattle.bmp_cert.specs.Limits.{max_size}
 use Rattle.bmp_interval.specs.declared.fault.IntervalFault.TheVariants.{NotReduced, TooMany as Many}
 use Rattle.bmp_interval.proofs.FactLemmas.{letters_word}
 use Rattle.bmp_interval.proofs.IntervalLemmas.{vertex_member}
@@ -50,7 +52,7 @@ not_reduced j n short differ long = differ (short.length_is ∙ (one_length j sh
 -- ---- intervals
 
 has_vertices : (j : Job) (vertices : List Elem) → IsJobInterval j vertices → HasVertices (matrix_of_job j) (word_of j.word) vertices
-has_vertices j vertices i = subst (λ (m : CartanMatrix). HasVertices m (word_of j.word) vertices) i.system.matrix i.interval.vertices
+has_vertices j vertices i = subst (λ (m : CartanMatrix). HasVertices m (word_of j.word) vertices) i.system.matrix i.interval.interval.vertices
 
 is_word : (j : Job) → HasLetters j → IsWord (matrix_of_job j) (word_of j.word)
 is_word j letters = letters_word j.rank j.word letters
@@ -62,18 +64,18 @@ interval_of_word j roots word vertices is system interval =
 pub one_interval : (j : Job) (a b : List Elem) → IsJobInterval j a → IsJobInterval j b → a ≡ b
 one_interval j a b of_a of_b = one_interval_of of_a.roots of_b.roots (of_a.system.matrix ∙ sym of_b.system.matrix) j.word a b of_a.interval of_b.interval
 
-pub no_interval : (j : Job) → HasLetters j → HasMoreVertices (matrix_of_job j) (word_of j.word) 2048 → HasInterval j → ⊥
+pub no_interval : (j : Job) → HasLetters j → HasMoreVertices (matrix_of_job j) (word_of j.word) max_vertices → HasInterval j → ⊥
 no_interval j letters more (vertices, i) =
     let up : length more.some ≤ length vertices =
     length_within more.some vertices more.once
     (λ e h. vertex_member (matrix_of_job j) (word_of j.word) (is_word j letters) vertices (has_vertices j vertices i) e (more.each e h)) in
-    omega (arith, up, more.more, i.interval.few)
+    omega (arith, up, more.more, i.interval.interval.few)
 
 one_size : (j : Job) (a b : ℕ) → HasSize j a → HasSize j b → a ≡ b
 one_size j a b of_a of_b =
     of_a.size ∙ (ap (λ (vertices : List Elem). length vertices * count j.rank j.degree) (one_interval j of_a.vertices of_b.vertices of_a.interval of_b.interval) ∙ sym of_b.size)
 
-pub not_small : (j : Job) (n : ℕ) → HasSize j n → 200000 < n → IsSmall j → ⊥
+pub not_small : (j : Job) (n : ℕ) → HasSize j n → max_size < n → IsSmall j → ⊥
 not_small j n size large (other, other_size, small) =
     let same : n ≡ other = one_size j n other size other_size in
     omega (arith, same, large, small)
@@ -108,9 +110,9 @@ reduced_fault j roots word n is before system fault =
 pub vertices_fault : (j : Job) (roots : Roots) (word : List ℕ) (n : ℕ) → word ≡ j.word → KeepsBefore (Reduced n) j → IsSystemOf j roots
     → IsFault (matrix_of roots) (positive_roots_of roots) (word_of word) (Many n) → IsFirstFault j (TooMany n)
 vertices_fault j roots word n is before system fault =
-    let more : HasMoreVertices (matrix_of_job j) (word_of j.word) 2048 =
-    subst (λ (m : CartanMatrix). HasMoreVertices m (word_of j.word) 2048) system.matrix
-    (subst (λ (w : List ℕ). HasMoreVertices (matrix_of roots) (word_of w) 2048) is fault.2) in
+    let more : HasMoreVertices (matrix_of_job j) (word_of j.word) max_vertices =
+    subst (λ (m : CartanMatrix). HasMoreVertices m (word_of j.word) max_vertices) system.matrix
+    (subst (λ (w : List ℕ). HasMoreVertices (matrix_of roots) (word_of w) max_vertices) is fault.2) in
     record {
       before = (before.0, before.1, before.2, before.3, reduced_word j roots word is system fault.0);
       broken = no_interval j before.3 more;

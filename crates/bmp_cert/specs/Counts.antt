@@ -1,4 +1,6 @@
--- The numbers of generators of a certificate's vertices.
+-- What the comparisons of a certificate speak of besides the graph, and the numbers of generators of its vertices.
+--   Written                  a degree bound and the parts of vertices
+--   written_by c             those of a certificate
 --   part_of c x              the part of the vertex x; the parts begin with the greatest vertex
 --   generator_count c x d    how many generators of degree d the vertex x has
 --   RankTable                what contracts see of ranks: for each vertex and each degree a number
@@ -9,13 +11,20 @@ use Rattle.std.specs.Prelude.{count_by, ◌==◌, ◌≡◌, ◌<◌, ◌≤◌,
 use Rattle.bmp_cert.specs.declared.cert.VertexPart.{VertexPart}
 use Rattle.bmp_cert.specs.declared.cert.Cert.{Cert}
 
+pub record Written : Type 0 where
+  pub degree : ℕ
+  pub parts : List VertexPart
+
+abbrev pub written_by : Cert → Written
+written_by c = record { degree = c.job.degree; parts = c.vertices }
+
 abbrev pub no_part : VertexPart
 no_part = record { degrees = []; edges = 0; lifts = []; blocks = [] }
 
-abbrev pub part_of : Cert → ℕ → VertexPart
-part_of c x = slice_index_or c.vertices (length c.vertices - 1 - x) no_part
+abbrev pub part_of : Written → ℕ → VertexPart
+part_of c x = slice_index_or c.parts (length c.parts - 1 - x) no_part
 
-abbrev pub generator_count : Cert → ℕ → ℕ → ℕ
+abbrev pub generator_count : Written → ℕ → ℕ → ℕ
 generator_count c x d = count_by (λ e. e == d) (part_of c x).degrees
 
 pub record RankTable : Type 0 where
@@ -26,10 +35,10 @@ pub record RankTable : Type 0 where
 abbrev pub rank_in : RankTable → ℕ → ℕ → ℕ
 rank_in r x d = slice_index_or r.numbers (x * (r.degree + 1) + d) 0
 
-pub record IsRanksOf (c : Cert) (r : RankTable) : Type 0 where
-  pub vertices : r.vertices ≡ length c.vertices
-  pub degree : r.degree ≡ c.job.degree
-  pub numbers : (x d : ℕ) → x < length c.vertices → d ≤ c.job.degree → rank_in r x d ≡ generator_count c x d
+pub record IsRanksOf (c : Written) (r : RankTable) : Type 0 where
+  pub vertices : r.vertices ≡ length c.parts
+  pub degree : r.degree ≡ c.degree
+  pub numbers : (x d : ℕ) → x < length c.parts → d ≤ c.degree → rank_in r x d ≡ generator_count c x d
 
 -- ---- as a list
 
@@ -37,6 +46,6 @@ abbrev pub counts_below : List ℕ → ℕ → List ℕ
 counts_below degrees zero = []
 counts_below degrees (suc d) = counts_below degrees d ++ count_by (λ e. e == d) degrees ∷ []
 
-abbrev pub all_counts : Cert → ℕ → List ℕ
+abbrev pub all_counts : Written → ℕ → List ℕ
 all_counts c zero = []
-all_counts c (suc x) = all_counts c x ++ counts_below (part_of c x).degrees (c.job.degree + 1)
+all_counts c (suc x) = all_counts c x ++ counts_below (part_of c x).degrees (c.degree + 1)

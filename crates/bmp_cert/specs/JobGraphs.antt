@@ -13,6 +13,7 @@ use Rattle.bmp_interval.specs.Intervals.{IsIntervalOf}
 use Rattle.bmp_interval.specs.IntervalViews.{system_of, letters_of, vertices_of}
 use Rattle.bmp_interval.specs.declared.interval.Interval.{Interval}
 use Rattle.bmp_graph.specs.Graph.{Graph, IsGraph}
+use Rattle.bmp_bruhat.specs.Labels.{root_form}
 use Rattle.bmp_bruhat.specs.Edges.{IsBruhatGraph}
 use Rattle.bmp_cert.specs.declared.job.Job.{Job}
 
@@ -32,12 +33,12 @@ pub record IsJobGraph (j : Job) (g : Graph) : Type 0 where
   pub vertices : List Elem
   pub system : IsSystemOf j roots
   pub interval : IsIntervalOf roots j.word vertices
-  pub bruhat : IsBruhatGraph roots vertices j.prime g
+  pub bruhat : IsBruhatGraph roots vertices j.prime root_form g
   pub graph : IsGraph g
 
 pub record IsPrepared (j : Job) (interval : Interval) (g : Graph) : Type 0 where
   pub system : IsSystemOf j (system_of interval)
   pub word : letters_of interval ≡ j.word
   pub interval_is : IsIntervalOf (system_of interval) j.word (vertices_of interval)
-  pub bruhat : IsBruhatGraph (system_of interval) (vertices_of interval) j.prime g
+  pub bruhat : IsBruhatGraph (system_of interval) (vertices_of interval) j.prime root_form g
   pub graph : IsGraph g

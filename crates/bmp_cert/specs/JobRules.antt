@@ -1,20 +1,20 @@
 -- The rules of a job, in the order in which they are tried.
 --   HasMatrix j            1. its rows form a Cartan matrix of rank 1 to 6
 --   HasRoots j             2. its root system is finite within the limits
---   HasPrime j             3. its number of field elements is a taken prime
+--   HasPrime j             3. its number of field elements is a prime up to 61
 --   HasLetters j           4. the letters of its word are from 1 to the rank
 --   HasReducedWord j       5. its word is as long as its product
---   HasInterval j          6. there are at most 2,048 vertices below the word
+--   HasInterval j          6. there are at most 4,096 vertices below the word
 --   HasDegree j            7. its degree bound is at most 6
---   IsSmall j              8. it has at most 200,000 vertices times monomials of the greatest degree
+--   IsSmall j              8. it has at most 400,000 vertices times monomials of the greatest degree
 --   HasGkmGraph j          9. no two edges at one vertex of its moment graph have parallel labels
 --   KeepsFirstRules j      the rules 1 to 8 hold
 --   KeepsRules j           all rules hold
 --   IsFirstFault j f       f is the first rule that fails, with its values
 --   IsErrorOf j e          the same of an error, where want of memory says nothing
-use Rattle.std.specs.Prelude.{◌≡◌, ◌≤◌, ◌*◌, ℕ, List, length, IsTrue}
+use Rattle.std.specs.Prelude.{◌≡◌, ◌≤◌, ◌+◌, ◌*◌, ℕ, List, length, IsTrue}
 use Rattle.std.specs.List.{All}
-use Rattle.bmp_field.specs.Primes.{is_taken}
+use Rattle.bmp_field.specs.Primes.{is_listed}
 use Rattle.bmp_roots.specs.RootPairs.{HasCartanForm, HasFiniteSystem}
 use Rattle.bmp_roots.specs.RootSystems.{matrix_of, positive_roots_of}
 use Rattle.bmp_roots.specs.CartanRules.{HasShape, BreaksFirst}
@@ -23,9 +23,11 @@ use Rattle.bmp_roots.specs.declared.root_system.Roots.{Roots}
 use Rattle.bmp_weyl.specs.Words.{length_of}
 use Rattle.bmp_weyl.specs.Elements.{IsLetter, IsFirstBadLetter, word_of}
 use Rattle.bmp_weyl.specs.declared.elem.Elem.{Elem}
+use Rattle.bmp_interval.specs.Limits.{max_vertices}
 use Rattle.bmp_poly.specs.Exponents.{count}
 use Rattle.bmp_graph.specs.Graph.{Graph, HasGkm}
 use Rattle.bmp_graph.specs.Faults.{IsFirstParallelPair}
+use Rattle.bmp_cert.specs.Limits.{max_degree, max_size}
 use Rattle.bmp_cert.specs.JobGraphs.{matrix_of_job, IsSystemOf, IsJobInterval, IsJobGraph}
 use Rattle.bmp_cert.specs.declared.job.Job.{Job}
 use Rattle.bmp_cert.specs.declared.job_fault.JobFault.{JobFault}
@@ -42,7 +44,7 @@ abbrev pub HasRoots : Job → Type 0
 HasRoots j = HasFiniteSystem (matrix_of_job j)
 
 abbrev pub HasPrime : Job → Type 0
-HasPrime j = IsTrue (is_taken j.prime)
+HasPrime j = IsTrue (is_listed j.prime)
 
 abbrev pub HasLetters : Job → Type 0
 HasLetters j = All (IsLetter j.rank) j.word
@@ -56,12 +58,12 @@ pub record HasLength (j : Job) (n : ℕ) : Type 0 where
 abbrev pub HasReducedWord : Job → Type 0
 HasReducedWord j = HasLength j (length j.word)
 
--- an interval has at most 2,048 vertices
+-- an interval has at most 4,096 vertices
 abbrev pub HasInterval : Job → Type 0
 HasInterval j = (vertices : List Elem) × IsJobInterval j vertices
 
 abbrev pub HasDegree : Job → Type 0
-HasDegree j = j.degree ≤ 6
+HasDegree j = j.degree ≤ max_degree
 
 -- how many vertices there are, times how many monomials of the greatest degree
 pub record HasSize (j : Job) (n : ℕ) : Type 0 where
@@ -70,7 +72,7 @@ pub record HasSize (j : Job) (n : ℕ) : Type 0 where
   pub size : n ≡ length vertices * count j.rank j.degree
 
 abbrev pub IsSmall : Job → Type 0
-IsSmall j = (n : ℕ) × HasSize j n × (n ≤ 200000)
+IsSmall j = (n : ℕ) × HasSize j n × (n ≤ max_size)
 
 abbrev pub HasGkmGraph : Job → Type 0
 HasGkmGraph j = (g : Graph) × IsJobGraph j g × HasGkm g
@@ -123,7 +125,7 @@ HasValues (Finite e) j = IsRefused (matrix_of_job j) e.kind (root_pair e.root e.
 HasValues (Prime p) j = p ≡ j.prime
 HasValues (Letter e) j = IsFirstBadLetter j.rank j.word e.place
 HasValues (Reduced n) j = HasLength j n
-HasValues (TooMany n) j = n ≡ 2049
+HasValues (TooMany n) j = n ≡ max_vertices + 1
 HasValues (DegreeBound d) j = d ≡ j.degree
 HasValues (TooLarge n) j = HasSize j n
 HasValues (Gkm p) j = (g : Graph) × IsJobGraph j g × IsFirstParallelPair g p.vertex p.first p.second

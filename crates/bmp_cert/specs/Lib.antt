@@ -4,6 +4,7 @@ pub mod VectorGrammar
 pub mod BlockGrammar
 pub mod CertGrammar
 pub mod Counts
+pub mod Limits
 pub mod JobGraphs
 pub mod JobRules
 pub mod JobViews

@@ -1,5 +1,5 @@
 //! The text of a certificate, printed.
-ghost use Rattle.std.specs.Prelude.{◌≡◌, ℕ, ◌-◌, ◌<◌, ◌≤◌, ◌++◌, ◌∷◌, [], codes, length, IfOk, OnOk};
+ghost use Rattle.std.specs.Prelude.{◌≡◌, ℕ, ◌-◌, ◌<◌, ◌≤◌, ◌++◌, ◌∷◌, [], codes, length, IfOk, OnOk, OnErr};
 ghost use Rattle.std.specs.Fmt.{decimal};
 ghost use Rattle.bmp_text.specs.Readers.{same};
 ghost use Rattle.bmp_text.specs.Printing.{line_text, spaced_words, chain_text};
@@ -7,8 +7,8 @@ ghost use Rattle.bmp_cert.specs.VectorGrammar.{entry_text, vector_text, vectors_
 ghost use Rattle.bmp_cert.specs.BlockGrammar.{sizes_text, block_text};
 ghost use Rattle.bmp_cert.specs.CertGrammar.{vertex_text, step_up, step_down, part_text, part_at_text, part_lines_text, HavePartLines, cert_text, IsWellFormed};
 
-use crate::print::push_single;
-use crate::{Cert, Degrees, Parts, VertexPart, push_job_lines};
+use crate::print::{push_lines, push_single};
+use crate::{Cert, Degrees, Parts, VertexPart};
 use bmp_linear::{Blocks, DegreeBlock, Entry, Places, Vector, Vectors};
 use bmp_text::push_number;
 use std::alloc::{AllocError, Global};
@@ -154,17 +154,29 @@ fn push_vertices(out: &mut Vec<u8>, last: u64, parts: &[VertexPart]) -> Result<(
     Ok(())
 }
 
-/// Appends the line `vertices n` and the parts of the vertices. Where memory is wanting, a part of the lines may
-/// stand.
-pub fn push_parts(out: &mut Vec<u8>, _version: u8, parts: &Parts) -> Result<(), AllocError>
-    requires version { _version ≡ 1 }
-    requires formed { (most : ℕ) × (degree : ℕ) × HavePartLines most degree parts.now }
+// The line `vertices n` and the parts of the vertices, of which a part may stand where memory is wanting.
+fn push_part_lines(out: &mut Vec<u8>, parts: &Parts) -> Result<(), AllocError>
+    requires { 0 < length parts.now }
     ensures { OnOk result (out.new.items ≡ out.old.items ++ part_lines_text parts.now) }
 {
     let count = u64::from(parts.len());
     push_single(out, b"vertices", count)?;
     push_vertices(out, count - 1, parts.as_slice())?;
     Ok(())
+}
+
+/// Appends the line `vertices n` and the parts of the vertices. Where memory is wanting, nothing is appended: the
+/// lines are made apart first.
+pub fn push_parts(out: &mut Vec<u8>, version: u8, parts: &Parts) -> Result<(), AllocError>
+    requires version { version ≡ 1 }
+    requires formed { (most : ℕ) × (degree : ℕ) × HavePartLines most degree parts.now }
+    ensures ok { OnOk result (out.new.items ≡ out.old.items ++ part_lines_text parts.now) }
+    ensures err { OnErr result (out.new.items ≡ out.old.items) }
+{
+    let _version = version;
+    let mut lines = Vec::new(*out.allocator());
+    push_part_lines(&mut lines, parts)?;
+    out.extend_from_slice(&lines)
 }
 
 /// The text of a certificate.
@@ -174,8 +186,8 @@ pub fn print_cert(alloc: Global, c: &Cert) -> Result<Vec<u8>, AllocError>
 {
     let mut out = Vec::new(alloc);
     push_single(&mut out, b"bmp-cert", u64::from(c.version))?;
-    push_job_lines(&mut out, &c.job)?;
-    push_parts(&mut out, c.version, &c.vertices)?;
+    push_lines(&mut out, &c.job)?;
+    push_part_lines(&mut out, &c.vertices)?;
     out.extend_from_slice(b"end\n")?;
     Ok(out)
 }

@@ -12,31 +12,31 @@ use thiserror::Error;
 #[derive(Clone, Copy, Debug, PartialEq, Eq, Error)]
 pub enum JobFault {
     /// The rows are no Cartan matrix of rank 1 to 6.
-    #[error("{0}")]
+    #[error("the matrix is no Cartan matrix: {0}")]
     Cartan(CartanFault),
     /// The root system isn't finite within the limits.
     #[error("{0}")]
     Finite(NotFinite),
-    /// The number, this one, is none of the primes 2, 3, 5, 7, 11, 13.
-    #[error("prime {0}")]
+    /// The number, this one, is no prime from 2 to 61.
+    #[error("{0} is no prime from 2 to 61")]
     Prime(u8),
     /// The first letter that isn't from 1 to the rank.
     #[error("{0}")]
     Letter(BadLetter),
     /// The word is longer than its product, whose length this is.
-    #[error("reduced {length}")]
+    #[error("the word is longer than its product, which has length {length}")]
     Reduced { length: u32 },
-    /// There are more than 2,048 vertices: the count is always 2,049.
-    #[error("vertices {count}")]
+    /// There are more than 4,096 vertices: the count is always 4,097.
+    #[error("there are {count} vertices or more")]
     TooMany { count: u32 },
     /// The degree bound, this one, is above 6.
-    #[error("degree {0}")]
+    #[error("the degree bound {0} is above 6")]
     DegreeBound(u8),
-    /// The number of vertices times that of the monomials of the greatest degree, this one, is above 200,000.
-    #[error("size {size}")]
+    /// The number of vertices times that of the monomials of the greatest degree, this one, is above 400,000.
+    #[error("vertices times monomials are {size}, above 400,000")]
     TooLarge { size: u32 },
     /// The first two edges at a vertex whose labels are parallel.
-    #[error("gkm vertex {} edges {} {}", .0.vertex, .0.first, .0.second)]
+    #[error("at vertex {} the edges {} and {} have parallel labels", .0.vertex, .0.first, .0.second)]
     Gkm(GkmPair),
 }
 

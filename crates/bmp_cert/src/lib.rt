@@ -39,6 +39,3 @@ pub use prepared::{Accepted, Prepared};
 pub use print::{print_job, push_job_lines};
 pub use ranks::Ranks;
 pub use rules::{accept_job, prepare_job};
-
-#[cfg(test)]
-mod tests;

@@ -3,6 +3,7 @@ ghost use Rattle.std.specs.Prelude.{◌≡◌, IfOk, OnOk, IfErr};
 ghost use Rattle.bmp_graph.specs.Graph.{HasGkm};
 ghost use Rattle.bmp_graph.specs.Faults.{IsFirstParallelPair};
 ghost use Rattle.bmp_cert.specs.JobGraphs.{IsPrepared};
+ghost use Rattle.bmp_cert.specs.JobRules.{KeepsFirstRules, KeepsRules};
 
 use crate::Job;
 use bmp_graph::{GkmPair, MomentGraph};
@@ -15,6 +16,7 @@ pub struct Prepared {
     pub(crate) interval: Interval,
     pub(crate) graph: MomentGraph,
     pub ghost prepared: { ∥ IsPrepared job interval graph ∥₁ },
+    pub ghost keeps: { ∥ KeepsFirstRules job ∥₁ },
 }
 
 /// A job that keeps all rules.
@@ -22,6 +24,7 @@ pub struct Prepared {
 pub struct Accepted {
     prepared: Prepared,
     pub ghost holds: { HasGkm prepared.graph },
+    pub ghost keeps: { ∥ KeepsRules prepared.job ∥₁ },
 }
 
 impl Prepared {

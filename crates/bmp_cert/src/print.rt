@@ -1,5 +1,5 @@
 //! The text of a job, printed.
-ghost use Rattle.std.specs.Prelude.{◌≡◌, ◌*◌, ◌++◌, ◌∷◌, [], IfOk, OnOk, length};
+ghost use Rattle.std.specs.Prelude.{◌≡◌, ◌*◌, ◌++◌, ◌∷◌, [], IfOk, OnOk, OnErr, length};
 ghost use Rattle.std.specs.Fmt.{decimal, signed_decimal};
 ghost use Rattle.bmp_text.specs.Readers.{same};
 ghost use Rattle.bmp_text.specs.Printing.{spaced_words, chain_text, single_text};
@@ -82,8 +82,8 @@ fn push_rows(out: &mut Vec<u8>, rank: u8, entries: &[i64]) -> Result<(), AllocEr
     Ok(())
 }
 
-/// Appends the job lines. Where memory is wanting, a part of them may stand.
-pub fn push_job_lines(out: &mut Vec<u8>, j: &Job) -> Result<(), AllocError>
+// The job lines, of which a part may stand where memory is wanting.
+pub(crate) fn push_lines(out: &mut Vec<u8>, j: &Job) -> Result<(), AllocError>
     requires { IsWellFormedJob j.now }
     ensures { OnOk result (out.new.items ≡ out.old.items ++ job_lines_text j.now) }
 {
@@ -95,6 +95,17 @@ pub fn push_job_lines(out: &mut Vec<u8>, j: &Job) -> Result<(), AllocError>
     Ok(())
 }
 
+/// Appends the job lines. Where memory is wanting, nothing is appended: the lines are made apart first.
+pub fn push_job_lines(out: &mut Vec<u8>, j: &Job) -> Result<(), AllocError>
+    requires { IsWellFormedJob j.now }
+    ensures ok { OnOk result (out.new.items ≡ out.old.items ++ job_lines_text j.now) }
+    ensures err { OnErr result (out.new.items ≡ out.old.items) }
+{
+    let mut lines = Vec::new(*out.allocator());
+    push_lines(&mut lines, j)?;
+    out.extend_from_slice(&lines)
+}
+
 /// The text of a job.
 pub fn print_job(alloc: Global, j: &Job) -> Result<Vec<u8>, AllocError>
     requires { IsWellFormedJob j.now }
@@ -102,7 +113,7 @@ pub fn print_job(alloc: Global, j: &Job) -> Result<Vec<u8>, AllocError>
 {
     let mut out = Vec::new(alloc);
     push_single(&mut out, b"bmp-job", 1)?;
-    push_job_lines(&mut out, j)?;
+    push_lines(&mut out, j)?;
     out.extend_from_slice(b"end\n")?;
     Ok(out)
 }

@@ -1,8 +1,8 @@
 //! The ranks: for each vertex and each degree, how many generators there are.
 ghost use Rattle.std.specs.Prelude.{◌≡◌, ◌<◌, ◌≤◌, ◌+◌, ◌-◌, ◌++◌, length, IfOk, OnOk};
-ghost use Rattle.bmp_cert.specs.Counts.{rank_in, counts_below, all_counts, IsRanksOf};
+ghost use Rattle.bmp_cert.specs.Counts.{written_by, rank_in, counts_below, all_counts, IsRanksOf};
 
-use crate::{Cert, Degrees};
+use crate::{Cert, Degrees, Parts};
 use std::alloc::{AllocError, Global};
 use std::marker::Model;
 
@@ -37,11 +37,11 @@ fn push_counts(numbers: &mut Vec<u32>, degrees: &Degrees, bound: u32) -> Result<
 }
 
 // The numbers of all vertices, from the least on.
-fn numbers_of(alloc: Global, c: &Cert) -> Result<Vec<u32>, AllocError>
-    ensures { IfOk result (λ v. v.items ≡ all_counts c.now (length c.now.vertices)) }
+fn numbers_of(alloc: Global, list: &Parts, bound: u32) -> Result<Vec<u32>, AllocError>
+    requires { bound ≤ 255 }
+    ensures { IfOk result (λ v. v.items ≡ all_counts (record { degree = bound; parts = list.now }) (length list.now)) }
 {
-    let parts = c.vertices.as_slice();
-    let bound = u32::from(c.job.degree);
+    let parts = list.as_slice();
     let mut numbers = Vec::new(alloc);
     'vertices: for x in 0..parts.len() {
         push_counts(&mut numbers, &parts[parts.len() - 1 - x].degrees, bound)?;
@@ -50,16 +50,24 @@ fn numbers_of(alloc: Global, c: &Cert) -> Result<Vec<u32>, AllocError>
 }
 
 impl Ranks {
-    /// The numbers of generators of a certificate.
-    pub fn of(alloc: Global, c: &Cert) -> Result<Ranks, AllocError>
-        ensures { IfOk result (λ r. IsRanksOf c.now r) }
+    /// The numbers of generators of these parts, up to a degree.
+    pub fn of_parts(alloc: Global, parts: &Parts, degree: u32) -> Result<Ranks, AllocError>
+        requires { degree ≤ 255 }
+        ensures { IfOk result (IsRanksOf (record { degree = degree; parts = parts.now })) }
     {
-        let numbers = numbers_of(alloc, c)?;
+        let numbers = numbers_of(alloc, parts, degree)?;
         Ok(Ranks {
-            vertices: c.vertices.len(),
-            degree: u32::from(c.job.degree),
+            vertices: parts.len(),
+            degree,
             numbers,
         })
+    }
+
+    /// The numbers of generators of a certificate.
+    pub fn of(alloc: Global, c: &Cert) -> Result<Ranks, AllocError>
+        ensures { IfOk result (IsRanksOf (written_by c.now)) }
+    {
+        Ranks::of_parts(alloc, &c.vertices, u32::from(c.job.degree))
     }
 
     /// How many vertices there are.

@@ -19,7 +19,7 @@ use bmp_weyl::product;
 use std::alloc::Global;
 
 /// The greatest number of vertices times monomials.
-const MAX_SIZE: u32 = 200_000;
+const MAX_SIZE: u32 = 400_000;
 
 /// The greatest degree bound.
 const MAX_DEGREE: u8 = 6;

@@ -1,11 +1,13 @@
 //! Vectors and rising places of a text, read.
-ghost use Rattle.std.specs.Prelude.{◌≡◌, ◌<◌, ◌≤◌, ◌^◌, ◌+◌, ◌++◌, length, Ok, IfOk, IfSome, MatchOption};
+ghost use Rattle.std.specs.Prelude.{◌≡◌, ◌<◌, ◌≤◌, ◌^◌, ◌+◌, ◌++◌, ◌∷◌, true, length, Ok, IfOk, IfSome, MatchOption};
+ghost use Rattle.std.specs.List.{list_all};
+ghost use Rattle.std.specs.Char.{is_ascii_graphic};
 ghost use Rattle.bmp_text.specs.Cursor.{natural};
 ghost use Rattle.bmp_text.specs.Readers.{chain, line};
 ghost use Rattle.bmp_text.specs.Printing.{spaced_words, chain_text, ChainFits};
 ghost use Rattle.bmp_text.specs.LaterLines.{PassesLines};
 ghost use Rattle.bmp_cert.specs.Answers.{Gives};
-ghost use Rattle.bmp_cert.specs.VectorGrammar.{MOST, entry, entry_text, IsEntry, behind_place, vector, vectors, rising_places};
+ghost use Rattle.bmp_cert.specs.VectorGrammar.{MOST, entry, entry_text, IsEntry, behind_place, vector, vector_text, IsVector, vectors, rising_places};
 
 use crate::CertError;
 use bmp_linear::{Entry, Places, Vector, Vectors};
@@ -94,7 +96,34 @@ fn entries_ahead(
     Ok(Some(entries))
 }
 
-// A line of a keyword and a vector, read in one pass. `None` says only that something in it isn't simple.
+// A line of a keyword and a vector, read ahead.
+fn line_ahead(
+    alloc: Global,
+    ahead: &mut Ahead,
+    word: &[u8],
+    most: u8,
+) -> Result<Option<Vector>, AllocError>
+    ensures word { IfOk result (λ found. IfSome found (λ v. list_all is_ascii_graphic word.now ≡ true)) }
+    ensures vector { IfOk result (λ found. IfSome found (IsVector most)) }
+    ensures read { IfOk result (λ found. IfSome found (λ v.
+        ahead.old ≡ (word.now ++ spaced_words (vector_text v)) ++ 10 ∷ ahead.new)) }
+{
+    if !ahead.keyword(word) {
+        return Ok(None);
+    }
+    let Some(count) = ahead.natural(0, GREATEST) else {
+        return Ok(None);
+    };
+    let Some(vector) = entries_ahead(alloc, ahead, count, most)? else {
+        return Ok(None);
+    };
+    if !ahead.line_feed() {
+        return Ok(None);
+    }
+    Ok(Some(vector))
+}
+
+// The same of the next line, which is passed. `None` says only that something in it isn't simple.
 fn vector_ahead(
     alloc: Global,
     lines: &mut Lines,
@@ -107,18 +136,9 @@ fn vector_ahead(
     ensures later { PassesLines lines.old lines.new }
 {
     let mut ahead = lines.ahead();
-    if !ahead.keyword(word) {
-        return Ok(None);
-    }
-    let Some(count) = ahead.natural(0, GREATEST) else {
+    let Some(vector) = line_ahead(alloc, &mut ahead, word, most)? else {
         return Ok(None);
     };
-    let Some(vector) = entries_ahead(alloc, &mut ahead, count, most)? else {
-        return Ok(None);
-    };
-    if !ahead.line_feed() {
-        return Ok(None);
-    }
     lines.pass_to(&ahead);
     Ok(Some(vector))
 }

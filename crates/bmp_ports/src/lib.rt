@@ -14,6 +14,3 @@ pub use memory::{MemSink, MemSource, SureSink, SureSource};
 pub use port::{Failed, Sink, Source, WriteError};
 pub use standard::{StdSink, StdSource};
 pub use whole::{READ_LIMIT, ReadError, read_all, write_all};
-
-#[cfg(test)]
-mod tests;

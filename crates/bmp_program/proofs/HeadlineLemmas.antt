@@ -7,13 +7,16 @@ use Rattle.bmp_text.proofs.Pairs.{whole_same}
 use Rattle.bmp_cert.proofs.CertPairs.{cert_pair}
 use Rattle.bmp_cert.specs.declared.cert.Cert.{Cert}
 use Rattle.bmp_cert.specs.CertGrammar.{cert, cert_text, IsWellFormed}
+use Rattle.bmp_cert.specs.Counts.{written_by}
 use Rattle.bmp_check.specs.Accepted.{IsAccepted}
-use Rattle.bmp_check.proofs.Soundness.{passed_is_braden_macpherson, passed_counts_are_dimensions}
+use Rattle.bmp_check.proofs.AcceptedLemmas.{accepted_is_checkable}
+use Rattle.bmp_check.proofs.Soundness.{passed_is_braden_macpherson, passed_generators_are_bounded, passed_counts_are_dimensions}
 use Rattle.bmp_report.specs.RankLines.{cert_rank_lines}
 use Rattle.bmp_program.specs.CommandLine.{asked}
-use Rattle.bmp_program.specs.Reports.{InputReport, CommandReport, IsReport}
+use Rattle.bmp_program.specs.Reports.{IsCertOf, InputReport, CommandReport, IsReport}
 use Rattle.bmp_program.specs.Runs.{Report, Holds, Reports, DecidedBy, IsDecided}
 use Rattle.bmp_program.specs.Headline.{Certifies, IsCertified}
+use Rattle.bmp_program.specs.Passed.{HasPassed}
 use Rattle.bmp_program.specs.declared.words.CommandWord.{CommandWord}
 use Rattle.bmp_program.specs.declared.words.CommandWord.TheVariants.{Check}
 use Rattle.bmp_program.specs.declared.status.Status.{Status}
@@ -27,7 +30,8 @@ certified : (input text : List ℕ) → InputReport Check input Done text → Ce
 unfolding InputReport
 certified input text (fits, found) =
     let c = found.0 in let report = found.2 in let G = report.1.0 in
-    let accepted : IsAccepted G c = record { formed = found.1.0; rules = report.0; graph = report.1.1 } in (
+    let accepted : IsAccepted G c = record { formed = found.1.0; rules = report.0; graph = report.1.1 } in
+    let checkable = accepted_is_checkable G c accepted in (
       c,
       (
         G,
@@ -37,9 +41,9 @@ certified input text (fits, found) =
           only = λ d formed of_d. whole_same cert cert_text IsWellFormed cert_pair d c formed found.1.0 (sym of_d ∙ found.1.1);
           rules = report.0;
           graph = report.1.1;
-          holds = report.1.2;
-          sheaf = passed_is_braden_macpherson G c accepted report.1.2;
-          dimensions = passed_counts_are_dimensions G c accepted report.1.2;
+          sheaf = passed_is_braden_macpherson G c.version (written_by c) checkable report.1.2;
+          bounded = passed_generators_are_bounded G c.version (written_by c) checkable report.1.2;
+          dimensions = passed_counts_are_dimensions G c.version (written_by c) checkable report.1.2;
         },
         report.1.3,
       ),
@@ -51,6 +55,8 @@ check_report words input text status asks done report =
     let by_command : CommandReport (Some Check) input status text =
     subst (λ (command : Option CommandWord). CommandReport command input status text) asks report in
     subst (λ (s : Status). InputReport Check input s text) done by_command
+
+-- ---- the report on what the source has left
 
 written : (left before after : Option (List ℕ)) (input text : List ℕ) → Holds left input → InputReport Check input Done text → Takes before after text → IsCertified left before after
 written None before after input text held report takes = tt
@@ -64,9 +70,24 @@ written (Some left) before after input text held report takes =
       ),
     )
 
-pub headline : (words : List Text) (left : Option (List ℕ)) (rose : Type 0) (answer : Report) (before after : Option (List ℕ)) → IsDecided (IsReport words) left rose answer → Takes before after answer.text → asked words ≡ Some Check → answer.status ≡ Done → IsCertified left before after
-headline words left rose answer before after decided takes asks done =
-    let found : Reports (IsReport words) left answer =
-    subst (λ (s : Status). DecidedBy s (IsReport words) left rose answer) done decided in
-    written left before after found.0 answer.text found.1
-    (check_report words found.0 answer.text answer.status asks done found.2) takes
+passed_input : (left : Option (List ℕ)) (input text : List ℕ) → Holds left input → InputReport Check input Done text → HasPassed left
+unfolding InputReport
+passed_input None input text held report = tt
+passed_input (Some left) input text held (fits, found) =
+    let c = found.0 in let G = found.2.1.0 in
+    (c, (G, subst (λ (bytes : List ℕ). IsCertOf c bytes) (sym held) found.1, found.2.1.1, found.2.1.2))
+
+-- ---- the answer of `check` with status 0
+
+module _ (words : List Text) (left : Option (List ℕ)) (rose : Type 0) (answer : Report) (decided : IsDecided (IsReport words) left rose answer) (asks : asked words ≡ Some Check) (done : answer.status ≡ Done) where
+  found : Reports (IsReport words) left answer
+  found = subst (λ (s : Status). DecidedBy s (IsReport words) left rose answer) done decided
+
+  report : InputReport Check found.0 Done answer.text
+  report = check_report words found.0 answer.text answer.status asks done found.2
+
+  pub headline : (before after : Option (List ℕ)) → Takes before after answer.text → IsCertified left before after
+  headline before after takes = written left before after found.0 answer.text found.1 report takes
+
+  pub has_passed : HasPassed left
+  has_passed = passed_input left found.0 answer.text found.1 report

@@ -17,6 +17,7 @@ use Rattle.bmp_cert.specs.CertGrammar.{cert, cert_text, IsWellFormed}
 use Rattle.bmp_cert.specs.JobGraphs.{IsJobGraph}
 use Rattle.bmp_cert.specs.JobRules.{HasGkmGraph, KeepsFirstRules, KeepsRules, IsFirstFault}
 use Rattle.bmp_check.proofs.PassLemmas.{none_fails}
+use Rattle.bmp_cert.specs.Counts.{written_by}
 use Rattle.bmp_check.specs.Verdicts.{Passes, IsFirstRefusal}
 use Rattle.bmp_check.specs.declared.refusal.Refusal.{Refusal}
 use Rattle.bmp_program.specs.CommandLine.{asked}
@@ -62,16 +63,16 @@ one_job_case j s t (inr a) (inr b) = a.0 ∙ sym b.0
 
 -- on some graph of the job no comparison fails, or one fails first
 abbrev CertPasses : Cert → Type 0
-CertPasses c = (G : Graph) × IsJobGraph c.job G × Passes G c
+CertPasses c = (G : Graph) × IsJobGraph c.job G × Passes G c.version (written_by c)
 
 abbrev CertFails : Cert → Type 0
-CertFails c = (G : Graph) × IsJobGraph c.job G × ((refusal : Refusal) × IsFirstRefusal G c refusal)
+CertFails c = (G : Graph) × IsJobGraph c.job G × ((refusal : Refusal) × IsFirstRefusal G c.version (written_by c) refusal)
 
 -- not both, since the graph of a job is one
 not_both : (c : Cert) → CertPasses c → CertFails c → ⊥
 not_both c (G, of_G, passes) (H, of_H, fails) =
     let same : G ≡ H = one_graph c.job G H of_G of_H in
-    none_fails H c fails.0 (subst (λ (K : Graph). Passes K c) same passes) fails.1
+    none_fails H c.version (written_by c) fails.0 (subst (λ (K : Graph). Passes K c.version (written_by c)) same passes) fails.1
 
 CertCase : Cert → Status → Type 0
 CertCase c s = JobCase c.job s

@@ -29,6 +29,7 @@ use Rattle.bmp_cert.specs.declared.job_fault.JobFault.TheVariants.{Gkm}
 use Rattle.bmp_graph.specs.Graph.{Graph}
 use Rattle.bmp_cert.specs.CertGrammar.{cert, cert_text, IsWellFormed}
 use Rattle.bmp_cert.specs.JobGrammar.{job, job_text, IsWellFormedJob}
+use Rattle.bmp_cert.specs.Counts.{written_by}
 use Rattle.bmp_cert.specs.JobGraphs.{IsJobGraph}
 use Rattle.bmp_cert.specs.JobRules.{KeepsFirstRules, KeepsRules, IsFirstFault}
 use Rattle.bmp_check.specs.declared.refusal.Refusal.{Refusal}
@@ -72,8 +73,8 @@ abbrev pub CertReport : Cert → Status → List ℕ → Type 0
 CertReport c BadJob text = JobReport c.job BadJob text
 CertReport c GkmFailed text = JobReport c.job GkmFailed text
 CertReport c Refused text =
-    KeepsRules c.job × ((G : Graph) × IsJobGraph c.job G × ((refusal : Refusal) × IsFirstRefusal G c refusal × (text ≡ refusal_text refusal)))
-CertReport c Done text = KeepsRules c.job × ((G : Graph) × IsJobGraph c.job G × Passes G c × (text ≡ cert_rank_lines c))
+    KeepsRules c.job × ((G : Graph) × IsJobGraph c.job G × ((refusal : Refusal) × IsFirstRefusal G c.version (written_by c) refusal × (text ≡ refusal_text refusal)))
+CertReport c Done text = KeepsRules c.job × ((G : Graph) × IsJobGraph c.job G × Passes G c.version (written_by c) × (text ≡ cert_rank_lines c))
 CertReport c _ text = ⊥
 
 -- the text of no certificate, with the first fault in reading order, or the text of one

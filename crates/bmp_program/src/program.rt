@@ -4,6 +4,7 @@ ghost use Rattle.bmp_ports.specs.Ports.{Rose, IsAtEnd, Takes};
 ghost use Rattle.bmp_program.specs.CommandLine.{asked};
 ghost use Rattle.bmp_program.specs.declared.words.CommandWord.TheVariants.{Check};
 ghost use Rattle.bmp_program.specs.Headline.{IsCertified};
+ghost use Rattle.bmp_program.specs.Passed.{HasPassed};
 ghost use Rattle.bmp_program.specs.Reports.{IsReport, read_fault_line};
 ghost use Rattle.bmp_program.specs.Runs.{IsDecided, IsReported, WritesReport, WritesPrefix, answer_view};
 
@@ -69,6 +70,9 @@ pub fn run<S: Source, K: Sink>(
     // The words alone decide on a usage line; with status 0 all was read.
     ensures unread { asked (map string_bytes words.now) ≡ None → source.new ≡ source.old }
     ensures end { result ≡ Status.Done → IsAtEnd (S.left source.new) }
+
+    // When `check` ends with status 0, no comparison of the certificate fails.
+    ensures passed { asked (map string_bytes words.now) ≡ Some Check → result ≡ Status.Done → HasPassed (S.left source.old) }
 
     // When `check` ends with status 0, the bytes it read are exactly one certificate text, its job is accepted, and the sheaf in
     // the text is, in every degree up to D, a Braden-MacPherson sheaf of the job's Bruhat moment graph; the lines written are its

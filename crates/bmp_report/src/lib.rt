@@ -12,6 +12,3 @@ mod ranks;
 pub use faults::{job_line, text_line};
 pub use graph::{gkm_text, graph_text};
 pub use ranks::ranks_text;
-
-#[cfg(test)]
-mod tests;

@@ -1,8 +1,8 @@
 -- Bytes cut at a separator: how a loop cuts, and what was cut off.
 --   put_before front parts    a front in front of the first part
-use Rattle.std.proofs.Common.{◌≡◌, ℕ, ◌+◌, ◌<◌, ◌≤◌, ◌==◌, Bool, true, false, List, [], ◌∷◌, ◌++◌, length, take, drop, get_or, Option, Some, None, refl, sym, ap, ap₂, ◌∙◌, add-one, drop-cons, append_assoc, append-nil, rules}
+use Rattle.std.proofs.Common.{◌≡◌, ℕ, ◌+◌, ◌<◌, ◌≤◌, ◌==◌, Bool, true, false, List, [], ◌∷◌, ◌++◌, length, take, drop, get_or, Option, Some, None, refl, sym, ap, ap₂, ◌∙◌, add-one, drop-cons, append_assoc, append-nil, arith, rules}
 use Rattle.std.proofs.lemmas.Bool.{eqb-true}
-use Rattle.std.proofs.lemmas.List.{take_all, take_more, drop_all}
+use Rattle.std.proofs.lemmas.List.{length-append, take_all, take_more, drop_all}
 use Rattle.std.specs.List.{AllByRecursion}
 use Rattle.bmp_text.specs.Words.{cut, cut_with}
 
@@ -61,6 +61,12 @@ cut_takes s (b ∷ bs) front back e = go (b == s) refl (cut_takes s bs (cut s bs
         let f : (b ∷ (cut s bs).0) ≡ front = ap (λ (q : List ℕ × Option (List ℕ)). q.0) p in
         let g : (cut s bs).1 ≡ Some back = ap (λ (q : List ℕ × Option (List ℕ)). q.1) p in
         ap (λ t. b ∷ t) (more (ap (λ t. ((cut s bs).0, t)) g)) ∙ ap (λ t. t ++ s ∷ back) f
+
+-- what is left behind a separator is shorter
+pub cut_length : (s : ℕ) (bytes back : List ℕ) → (cut s bytes).1 ≡ Some back → length back < length bytes
+cut_length s bytes back e =
+    let all : bytes ≡ (cut s bytes).0 ++ s ∷ back = cut_takes s bytes (cut s bytes).0 back (ap (λ t. ((cut s bytes).0, t)) e) in
+    omega (arith, ap length all, length-append (cut s bytes).0 (s ∷ back))
 
 pub cut_again : (s : ℕ) (front back : List ℕ) → AllByRecursion (λ b. (b == s) ≡ false) front → cut s (front ++ s ∷ back) ≡ (front, Some back)
 cut_again s [] back h = found s s back (search rules)

@@ -176,6 +176,13 @@ module _ {A : Type 0} (word : List ℕ) (body : Cursor (List ℕ) → Result (A 
       ap (λ (t : List ℕ). line word body (record { place = c.place; rest = t })) (is ∙ sym (line_bytes word (text x) r))
       ∙ (line_again x c.place r h ∙ ap (λ (t : ℕ). Ok (x, record { place = place_behind c.place t; rest = r })) same)
 
+  -- and what is left behind that line
+  pub found_cut : (x : A) (c : Cursor ℕ) (r : List ℕ) → fits x → c.rest ≡ (word ++ spaced_words (text x)) ++ 10 ∷ r → (cut 10 c.rest).1 ≡ Some r
+  found_cut x c r h is =
+      let front = word ++ spaced_words (text x) in
+      ap (λ (t : List ℕ). (cut 10 t).1) is
+      ∙ ap (λ (p : List ℕ × Option (List ℕ)). p.1) (cut_again 10 front r (no_feeds front (printed_line word (text x) keyed (one.plain x h))))
+
   pub line_pair : Pair IsAny (line word body) (λ x. line_text word (text x)) fits
   unfolding line
   line_pair = record {

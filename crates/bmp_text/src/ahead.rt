@@ -3,7 +3,9 @@ ghost use Rattle.std.specs.Prelude.{◌≡◌, ◌≤◌, ◌<◌, ◌^◌, ◌�
 ghost use Rattle.std.specs.Fmt.{decimal};
 ghost use Rattle.std.specs.List.{list_all};
 ghost use Rattle.std.specs.Char.{is_ascii_graphic};
+ghost use Rattle.bmp_text.specs.Words.{cut};
 
+use crate::line::split;
 use crate::quick::quick_digits;
 use std::marker::Model;
 
@@ -80,13 +82,14 @@ impl<'a> Ahead<'a> {
         }
     }
 
-    /// How many of `count` items of at least `size` bytes each may stand in what is left: what a reader
-    /// reserves before it reads them.
+    /// How many of `count` items of at least `size` bytes each may stand in what is left of the line: what a
+    /// reader reserves before it reads them. Looks for the end of the line.
     pub fn room(&self, count: u64, size: usize) -> usize
         requires { 0 < size }
-        ensures { result ≡ min count (length self.now / size) }
+        ensures { result ≡ min count (length (cut 10 self.now).0 / size) }
     {
-        let most = self.rest.len() / size;
+        let (line, _) = split(b'\n', self.rest);
+        let most = line.len() / size;
         count.min(most as u64) as usize
     }
 }

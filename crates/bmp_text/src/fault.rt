@@ -53,6 +53,11 @@ impl TextKind {
 }
 
 impl fmt::Display for TextKind {
+    ghost use Rattle.std.specs.Prelude.{Some};
+    ghost use Rattle.bmp_text.specs.Faults.{kind_name};
+
+    ghost output = { λ kind. Some (kind_name kind) };
+
     fn fmt<W: fmt::Write>(&self, f: &mut fmt::Formatter<W>) -> fmt::Result {
         f.write_str(self.name())
     }

@@ -17,8 +17,6 @@ mod line;
 mod lines;
 mod number;
 mod quick;
-#[cfg(test)]
-mod tests;
 
 pub use ahead::Ahead;
 pub use fault::{NumberFault, TextFault, TextKind};

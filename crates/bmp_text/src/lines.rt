@@ -1,7 +1,7 @@
 //! The lines of a text.
-ghost use Rattle.std.specs.Prelude.{◌≡◌, ◌<◌, ◌-◌, length};
+ghost use Rattle.std.specs.Prelude.{◌≡◌, ◌-◌, length, Some};
 ghost use Rattle.std.specs.List.{list_any};
-ghost use Rattle.bmp_text.specs.Words.{is_unprintable};
+ghost use Rattle.bmp_text.specs.Words.{cut, is_unprintable};
 ghost use Rattle.bmp_text.specs.Cursor.{text_start, place_behind, next_line, end};
 ghost use Rattle.bmp_text.specs.Calls.{Reads};
 ghost use Rattle.bmp_text.specs.LaterLines.{PassesLines};
@@ -94,8 +94,9 @@ impl<'a> Lines<'a> {
     }
 
     /// Passes one line, behind which `ahead` stands.
+    #[tactic(auto, using(crate::proofs::CutLemmas::cut_length))]
     pub fn pass_to(&mut self, ahead: &Ahead<'a>)
-        requires { length ahead.now < length self.old.rest }
+        requires { (cut 10 self.old.rest).1 ≡ Some ahead.now }
         ensures { self.new ≡ record {
           place = place_behind self.old.place (length self.old.rest - length ahead.now - 1);
           rest = ahead.now;

@@ -99,10 +99,18 @@ pub fn push_int(out: &mut Vec<u8>, n: i128) -> Result<(), AllocError>
     out.extend_from_slice(buffer.format(n).as_bytes())
 }
 
-/// Appends a space and a number. Where memory is wanting, the space may stand.
+/// Appends a space and a number. Where memory is wanting, nothing is appended.
 pub fn push_number(out: &mut Vec<u8>, n: u64) -> Result<(), AllocError>
-    ensures { OnOk result (out.new.items ≡ out.old.items ++ (32 ∷ decimal n)) }
+    ensures ok { OnOk result (out.new.items ≡ out.old.items ++ (32 ∷ decimal n)) }
+    ensures err { OnErr result (out.new.items ≡ out.old.items) }
 {
+    let before = out.len();
     out.push(b' ')?;
-    push_int(out, i128::from(n))
+    match push_int(out, i128::from(n)) {
+        Ok(()) => Ok(()),
+        Err(error) => {
+            out.truncate(before);
+            Err(error)
+        }
+    }
 }

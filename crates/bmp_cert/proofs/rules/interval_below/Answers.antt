@@ -4,7 +4,7 @@ use Rattle.bmp_cert.proofs.SystemLemmas.{reduced_word, interval_of_word, reduced
 use Rattle.bmp_cert.proofs.rules.interval_below.Goals as goal
 
 pub returns-in-Ok-clause-reduced : goal.returns-in-Ok-clause-reduced
-returns-in-Ok-clause-reduced c = reduced_word c.args.j.now c.args.roots.now c.as_slice.result.now c.as_slice.ensures.letters c.requires.system c.in-Ok.ensures.interval.reduced
+returns-in-Ok-clause-reduced c = reduced_word c.args.j.now c.args.roots.now c.as_slice.result.now c.as_slice.ensures.letters c.requires.system c.in-Ok.ensures.interval.interval.reduced
 
 pub returns-in-Ok-clause-few : goal.returns-in-Ok-clause-few
 returns-in-Ok-clause-few c = interval_of_word c.args.j.now c.args.roots.now c.as_slice.result.now _ c.as_slice.ensures.letters c.requires.system c.in-Ok.ensures.interval
