@@ -1,15 +1,35 @@
-//! Certificates with more than one vertex: what holds, and the first comparison that fails.
+//! Certificates: what holds, and the first comparison that fails, by any number of workers.
+use crate::a3::A3;
 use crate::runs::{assert_run, with_line, with_lines};
-use crate::texts::{LINE, POINT, SQUARE, SURPLUS};
+use crate::texts::{LINE, LINE_RANKS, POINT, SQUARE, SQUARE_RANKS, SURPLUS};
 use bmp_program::Status;
 use std::alloc::Global;
 use std::process::Abort;
 use std::test::Fail;
 use std::thread::Threads;
 
-const LINE_RANKS: &str = "rank 0 1 0\nrank 1 1 0\n";
+// Asserts how the check of a text ends, and what it writes, with one, two, seven and 32 workers.
+fn assert_check(
+    rt: &(impl Abort + Threads + Sync),
+    alloc: Global,
+    text: &str,
+    status: Status,
+    written: &str,
+) -> Result<(), Fail> {
+    for line in [
+        "check --workers 1",
+        "check --workers 2",
+        "check --workers 7",
+        "check --workers 32",
+    ] {
+        assert_run(rt, alloc, line, text, status, written)?;
+    }
+    Ok(())
+}
 
-const SQUARE_RANKS: &str = "rank 0 1\nrank 1 1\nrank 2 1\nrank 3 1\n";
+const A3_RANKS: &str = "rank 0 1 1\nrank 1 1 0\nrank 2 1 0\nrank 3 1 1\nrank 4 1 0\n\
+    rank 5 1 0\nrank 6 1 0\nrank 7 1 0\nrank 8 1 0\nrank 9 1 0\nrank 10 1 0\nrank 11 1 0\n\
+    rank 12 1 0\nrank 13 1 0\n";
 
 #[test]
 fn certificates_that_hold(rt: HostRuntime) -> Result<(), Fail> {
@@ -17,136 +37,198 @@ fn certificates_that_hold(rt: HostRuntime) -> Result<(), Fail> {
         (POINT, "rank 0 1\n"),
         (LINE, LINE_RANKS),
         (SQUARE, SQUARE_RANKS),
+        (A3, A3_RANKS),
     ] {
-        for line in ["check", "check --workers 7"] {
-            assert_run(&rt, rt.alloc(), line, text, Status::Done, written)?;
-        }
+        assert_check(&rt, rt.alloc(), text, Status::Done, written)?;
     }
     Ok(())
 }
 
-// Asserts how the check of a text ends, with another line at one place, and what it writes.
-fn assert_changed(
-    rt: &(impl Abort + Threads + Sync),
-    alloc: Global,
-    text: &str,
-    place: usize,
-    line: &str,
-    status: Status,
-    written: &str,
-) -> Result<(), Fail> {
-    let changed = with_line(alloc, text, place, line)?;
-    assert_run(rt, alloc, "check", &changed, status, written)
-}
-
-// Asserts that the check of a text is refused, with another line at one place, and by which comparison at vertex 0: its index
-// and place, and the two numbers.
-fn assert_refused(
-    rt: &(impl Abort + Threads + Sync),
-    alloc: Global,
-    text: &str,
-    place: usize,
-    line: &str,
-    kind: &str,
-    numbers: [u32; 5],
-) -> Result<(), Fail> {
-    let [degree, index, at, left, right] = numbers;
-    let written = format!(in alloc;
-        "refused vertex 0 degree {degree} kind {kind} index {index} place {at} left {left} right {right}\n"
-    )?;
-    assert_changed(rt, alloc, text, place, line, Status::Refused, &written)
-}
-
-/// In degree 1 the boundary of the line's lower vertex has no coordinate, so that any cover is as good. On the square a form on the
-/// other edge reads the same generator.
+/// In degree 1 the boundary of the line's lower vertex has no coordinate, so that any cover is as good. On the square
+/// a form on the other edge reads the same generator.
 #[test]
 fn other_evidence_is_accepted(rt: HostRuntime) -> Result<(), Fail> {
     for (text, place, line, written) in [
         (LINE, 21, "cover 1 0 1", LINE_RANKS),
         (SQUARE, 39, "dual 1 1 1", SQUARE_RANKS),
     ] {
-        assert_changed(&rt, rt.alloc(), text, place, line, Status::Done, written)?;
+        let changed = with_line(rt.alloc(), text, place, line)?;
+        assert_check(&rt, rt.alloc(), &changed, Status::Done, written)?;
     }
     Ok(())
 }
 
+/// By row the text, the line that is put in place of one, and the comparison at vertex 0 that fails first: its degree
+/// and kind, its index and place, and the two numbers.
 #[test]
-fn the_square_altered(rt: HostRuntime) -> Result<(), Fail> {
-    for (place, line, kind, numbers) in [
-        (34, "tuple 2 0 1 2 1", "Section", [0, 0, 2, 2, 0]),
-        (34, "tuple 3 0 1 1 1 2 2", "Section", [0, 0, 0, 2, 1]),
-        (35, "row 1 0 2", "Row", [0, 0, 0, 2, 1]),
-        (36, "row 1 0 1", "Row", [0, 1, 0, 1, 0]),
-        (37, "cover 1 0 2", "Cover", [0, 0, 0, 2, 1]),
-        (38, "source 1 0 2", "Source", [0, 0, 0, 1, 2]),
-        (39, "dual 1 0 2", "Dual", [0, 0, 0, 2, 1]),
-        (33, "pivots 0 3", "Shape", [0, 4, 0, 4, 3]),
+fn one_line_altered(rt: HostRuntime) -> Result<(), Fail> {
+    for (text, place, line, refused) in [
+        (
+            POINT,
+            5,
+            "word 1 1",
+            "0 kind Shape index 0 place 0 left 1 right 2",
+        ),
+        (
+            POINT,
+            8,
+            "vertex 0 2 0 0",
+            "0 kind Top index 0 place 0 left 2 right 1",
+        ),
+        (
+            POINT,
+            8,
+            "vertex 0 0",
+            "0 kind Top index 0 place 0 left 0 right 1",
+        ),
+        (
+            LINE,
+            20,
+            "tuple 1 7 1",
+            "1 kind Shape index 2 place 0 left 8 right 1",
+        ),
+        (
+            LINE,
+            11,
+            "lift 1 1 1",
+            "0 kind Shape index 1 place 0 left 2 right 1",
+        ),
+        (
+            LINE,
+            8,
+            "vertex 1 2 0 0",
+            "0 kind Shape index 2 place 0 left 1 right 2",
+        ),
+        (
+            LINE,
+            8,
+            "vertex 1 0",
+            "0 kind Shape index 1 place 0 left 1 right 0",
+        ),
+        (
+            LINE,
+            8,
+            "vertex 1 1 1",
+            "0 kind Shape index 1 place 0 left 1 right 0",
+        ),
+        (
+            LINE,
+            11,
+            "lift 0",
+            "0 kind Cover index 0 place 0 left 0 right 1",
+        ),
+        (
+            LINE,
+            15,
+            "cover 0",
+            "0 kind Cover index 0 place 0 left 0 right 1",
+        ),
+        (
+            LINE,
+            16,
+            "source 0",
+            "0 kind Source index 0 place 0 left 1 right 0",
+        ),
+        (
+            LINE,
+            17,
+            "dual 0",
+            "0 kind Dual index 0 place 0 left 0 right 1",
+        ),
+        (
+            SQUARE,
+            34,
+            "tuple 2 0 1 2 1",
+            "0 kind Section index 0 place 2 left 2 right 0",
+        ),
+        (
+            SQUARE,
+            34,
+            "tuple 3 0 1 1 1 2 2",
+            "0 kind Section index 0 place 0 left 2 right 1",
+        ),
+        (
+            SQUARE,
+            35,
+            "row 1 0 2",
+            "0 kind Row index 0 place 0 left 2 right 1",
+        ),
+        (
+            SQUARE,
+            36,
+            "row 1 0 1",
+            "0 kind Row index 1 place 0 left 1 right 0",
+        ),
+        (
+            SQUARE,
+            37,
+            "cover 1 0 2",
+            "0 kind Cover index 0 place 0 left 2 right 1",
+        ),
+        (
+            SQUARE,
+            38,
+            "source 1 0 2",
+            "0 kind Source index 0 place 0 left 1 right 2",
+        ),
+        (
+            SQUARE,
+            39,
+            "dual 1 0 2",
+            "0 kind Dual index 0 place 0 left 2 right 1",
+        ),
+        (
+            SQUARE,
+            33,
+            "pivots 0 3",
+            "0 kind Shape index 4 place 0 left 4 right 3",
+        ),
     ] {
-        assert_refused(&rt, rt.alloc(), SQUARE, place, line, kind, numbers)?;
+        let changed = with_line(rt.alloc(), text, place, line)?;
+        let written = format!(in rt.alloc(); "refused vertex 0 degree {refused}\n")?;
+        assert_check(&rt, rt.alloc(), &changed, Status::Refused, &written)?;
     }
     Ok(())
 }
 
-#[test]
-fn the_line_altered(rt: HostRuntime) -> Result<(), Fail> {
-    for (place, line, written) in [
-        (7, "vertices 3", "text line 8 kind OutOfRange\n"),
-        (10, "edges 0", "text line 11 kind WrongKeyword\n"),
-        (10, "edges 4294967295", "text line 12 kind WrongKeyword\n"),
-        (8, "vertex 0 1 0", "text line 8 kind OutOfRange\n"),
-    ] {
-        assert_changed(&rt, rt.alloc(), LINE, place, line, Status::BadText, written)?;
-    }
-    for (place, line, kind, numbers) in [
-        (20, "tuple 1 7 1", "Shape", [1, 2, 0, 8, 1]),
-        (11, "lift 1 1 1", "Shape", [0, 1, 0, 2, 1]),
-        (8, "vertex 1 2 0 0", "Shape", [0, 2, 0, 1, 2]),
-        (8, "vertex 1 0", "Shape", [0, 1, 0, 1, 0]),
-        (8, "vertex 1 1 1", "Shape", [0, 1, 0, 1, 0]),
-        (11, "lift 0", "Cover", [0, 0, 0, 0, 1]),
-        (15, "cover 0", "Cover", [0, 0, 0, 0, 1]),
-        (16, "source 0", "Source", [0, 0, 0, 1, 0]),
-        (17, "dual 0", "Dual", [0, 0, 0, 0, 1]),
-    ] {
-        assert_refused(&rt, rt.alloc(), LINE, place, line, kind, numbers)?;
-    }
-    Ok(())
-}
-
-/// The edge of the line is taken out, the tuple of the square is taken out, and two blocks of the square are wrong, of which
-/// that of the greater vertex is told.
+/// The generator of the point is one of degree 1, the edge of the line is taken out, the tuple of the square is taken out, two blocks of the square are wrong, of
+/// which that of the greater vertex is told, and a second generator of the line has no dual form, since its boundary
+/// is zero.
 #[test]
 fn several_lines_altered(rt: HostRuntime) -> Result<(), Fail> {
     let alloc = rt.alloc();
+    let risen = with_lines(alloc, POINT, 6, 8, "degree 1\nvertices 1\nvertex 0 1 1")?;
     let no_edge = with_lines(alloc, LINE, 10, 11, "edges 0")?;
     let pivots = "block 0 3 0\npivots 0 1 2\nrow 1 0 1\nrow 1 1 1\nrow 0\nsource 0";
     let no_tuple = with_lines(alloc, SQUARE, 32, 38, pivots)?;
     let one_cover = with_line(alloc, SQUARE, 16, "cover 0")?;
     let no_covers = with_line(alloc, &one_cover, 25, "cover 0")?;
-    for (text, written) in [
+    for (text, refused) in [
+        (
+            risen.as_str(),
+            "0 degree 0 kind Top index 1 place 0 left 1 right 0",
+        ),
         (
             &no_edge,
-            "refused vertex 0 degree 0 kind Shape index 0 place 0 left 0 right 1\n",
+            "0 degree 0 kind Shape index 0 place 0 left 0 right 1",
         ),
         (
             &no_tuple,
-            "refused vertex 0 degree 0 kind Row index 0 place 2 left 2 right 0\n",
+            "0 degree 0 kind Row index 0 place 2 left 2 right 0",
         ),
         (
             &no_covers,
-            "refused vertex 2 degree 0 kind Cover index 0 place 0 left 0 right 1\n",
+            "2 degree 0 kind Cover index 0 place 0 left 0 right 1",
+        ),
+        (
+            SURPLUS,
+            "0 degree 0 kind Dual index 1 place 1 left 0 right 1",
         ),
     ] {
-        assert_run(&rt, alloc, "check", text, Status::Refused, written)?;
+        let written = format!(in alloc; "refused vertex {refused}\n")?;
+        assert_check(&rt, alloc, text, Status::Refused, &written)?;
     }
     Ok(())
-}
-
-/// A second generator whose boundary is zero has no dual form.
-#[test]
-fn a_surplus_generator_is_refused(rt: HostRuntime) -> Result<(), Fail> {
-    let written = "refused vertex 0 degree 0 kind Dual index 1 place 1 left 0 right 1\n";
-    assert_run(&rt, rt.alloc(), "check", SURPLUS, Status::Refused, written)
 }
 
 /// The whole group of type B2 modulo 2: the job is refused before its one vertex is counted.
@@ -165,11 +247,5 @@ vertex 0 1 0
 end
 ";
     let written = "gkm vertex 0 edges 0 3\n";
-    assert_run(&rt, rt.alloc(), "check", text, Status::GkmFailed, written)
-}
-
-#[test]
-fn a_certificate_of_too_few_vertices_is_refused(rt: HostRuntime) -> Result<(), Fail> {
-    let numbers = [0, 0, 0, 1, 2];
-    assert_refused(&rt, rt.alloc(), POINT, 5, "word 1 1", "Shape", numbers)
+    assert_check(&rt, rt.alloc(), text, Status::GkmFailed, written)
 }

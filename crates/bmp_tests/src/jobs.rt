@@ -76,11 +76,12 @@ fn jobs_that_break_a_rule(rt: HostRuntime) -> Result<(), Fail> {
             "finite coordinate 31 30",
         ),
         (A1, "4", "1 1", "0", "prime 4"),
+        (A1, "63", "1 1", "0", "prime 63"),
         (A1, "2", "1 2", "0", "letter 0"),
         (A1, "2", "2 1 1", "0", "reduced 0"),
-        (A6, "2", A6_LONGEST, "0", "vertices 2049"),
+        (A6, "2", A6_LONGEST, "0", "vertices 4097"),
         (A1, "3", "1 1", "7", "degree 7"),
-        (D5, "3", D5_LONGEST, "5", "size 241920"),
+        (D5, "3", D5_LONGEST, "6", "size 403200"),
     ] {
         let text = job(rt.alloc(), rows, prime, word, degree)?;
         let written = format!(in rt.alloc(); "job {rule}\n")?;
@@ -95,12 +96,13 @@ fn jobs_that_break_a_rule(rt: HostRuntime) -> Result<(), Fail> {
 fn jobs_with_the_gkm_condition(rt: HostRuntime) -> Result<(), Fail> {
     for (rows, prime, word, degree, written) in [
         (A1, "2", "0", "0", "gkm holds vertices 1 edges 0\n"),
+        (A1, "61", "1 1", "6", "gkm holds vertices 2 edges 1\n"),
         (B2, "2", "2 1 2", "1", "gkm holds vertices 4 edges 4\n"),
         (
             D5,
             "3",
             D5_LONGEST,
-            "4",
+            "5",
             "gkm holds vertices 1920 edges 19200\n",
         ),
     ] {

@@ -2,6 +2,8 @@
 #![tactic(auto)]
 
 #[cfg(test)]
+mod a3;
+#[cfg(test)]
 mod checks;
 #[cfg(test)]
 mod faults;

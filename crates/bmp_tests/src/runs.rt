@@ -1,4 +1,6 @@
 //! What the tests share: runs of the top call over ports in memory.
+ghost use Rattle.std.specs.Prelude.{◌<◌};
+
 use bmp_ports::{MemSink, MemSource};
 use bmp_program::{Status, run};
 use std::alloc::{AllocError, Global};
@@ -30,9 +32,33 @@ pub(crate) fn assert_run(
     let mut source = MemSource::new(bytes, usize::MAX, Vec::new(alloc));
     let mut sink = MemSink::new(alloc, usize::MAX, Vec::new(alloc));
     let ended = run(rt, alloc, &words, &mut source, &mut sink);
-    assert_eq!(rt; ended, status, "at {line}: {input}");
-    assert_eq!(rt; sink.bytes(), written.as_bytes(), "at {line}: {input}");
+    assert_eq!(rt;
+        (ended, sink.bytes()),
+        (status, written.as_bytes()),
+        "at {line}: {input}"
+    );
     Ok(())
+}
+
+/// How `check` ends on an input where source and sink move at most so many bytes a call and one call of each fails, by
+/// number; and what the sink took.
+pub(crate) fn check_by_pieces(
+    rt: &(impl Threads + Sync),
+    alloc: Global,
+    input: &str,
+    most: usize,
+    source_fails: u32,
+    sink_fails: u32,
+) -> Result<(Status, Vec<u8>), Fail>
+    requires { 0 < most }
+{
+    let words = words_of(alloc, "check")?;
+    let bytes = Vec::from_slice(alloc, input.as_bytes())?;
+    let mut source = MemSource::new(bytes, most, Vec::from_slice(alloc, &[source_fails])?);
+    let mut sink = MemSink::new(alloc, most, Vec::from_slice(alloc, &[sink_fails])?);
+    let status = run(rt, alloc, &words, &mut source, &mut sink);
+    let taken = Vec::from_slice(alloc, sink.bytes())?;
+    Ok((status, taken))
 }
 
 /// The text with another line at one place, counted from 1.

@@ -111,3 +111,9 @@ source 1 0 1
 dual 1 0 1
 end
 ";
+
+/// The ranks of the line.
+pub const LINE_RANKS: &str = "rank 0 1 0\nrank 1 1 0\n";
+
+/// The ranks of the square.
+pub const SQUARE_RANKS: &str = "rank 0 1\nrank 1 1\nrank 2 1\nrank 3 1\n";

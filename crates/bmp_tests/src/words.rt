@@ -1,4 +1,4 @@
-//! Words of the command line: which ask for `check`, and which for nothing.
+//! Words of the command line: which ask for `check`, and which for nothing; and the numbers of statuses.
 use crate::runs::assert_run;
 use crate::texts::POINT;
 use bmp_program::Status;
@@ -48,4 +48,22 @@ fn words_that_ask_for_nothing(rt: HostRuntime) -> Result<(), Fail> {
         assert_run(&rt, rt.alloc(), line, POINT, Status::Usage, "usage\n")?;
     }
     Ok(())
+}
+
+#[test]
+fn statuses_have_numbers(rt: HostRuntime) {
+    for (status, number) in [
+        (Status::Done, 0),
+        (Status::Refused, 1),
+        (Status::BadText, 2),
+        (Status::BadJob, 3),
+        (Status::GkmFailed, 4),
+        (Status::ReadFault, 5),
+        (Status::WriteFault, 6),
+        (Status::NoMemory, 7),
+        (Status::TooLong, 8),
+        (Status::Usage, 64),
+    ] {
+        assert_eq!(rt; status.number(), number, "at {status:?}");
+    }
 }

@@ -1,0 +1,13 @@
+//! Tests of ports, texts, certificates and reports.
+#![tactic(auto)]
+
+#[cfg(test)]
+mod cert;
+#[cfg(test)]
+mod jobs;
+#[cfg(test)]
+mod ports;
+#[cfg(test)]
+mod report;
+#[cfg(test)]
+mod text;
