@@ -4,6 +4,9 @@ use crate::tables::count;
 use crate::{Exponents, Fault};
 use std::collections::{HashMap, HashSet};
 
+/// The primes of the fields that a job may name.
+const PRIMES: [u8; 18] = [2, 3, 5, 7, 11, 13, 17, 19, 23, 29, 31, 37, 41, 43, 47, 53, 59, 61];
+
 pub type Root = [i32; 6];
 pub type Matrix = [i32; 36];
 
@@ -116,7 +119,7 @@ pub struct Graph {
 pub fn accept(job: &Job) -> Result<Graph, Fault> {
     check_cartan(job)?;
     let positive = close_roots(job)?;
-    if ![2, 3, 5, 7, 11, 13].contains(&job.prime) {
+    if !PRIMES.contains(&job.prime) {
         return job_fault(format!("prime {}", job.prime));
     }
     let r = job.rank;
@@ -144,15 +147,15 @@ pub fn accept(job: &Job) -> Result<Graph, Fault> {
             .map(|e| times(e, &simple[c as usize - 1], r))
             .collect();
         found.extend(more);
-        if found.len() > 2048 {
-            return job_fault("vertices 2049".into());
+        if found.len() > 4096 {
+            return job_fault("vertices 4097".into());
         }
     }
     if job.degree > 6 {
         return job_fault(format!("degree {}", job.degree));
     }
     let size = found.len() * count(r, job.degree);
-    if size > 200_000 {
+    if size > 400_000 {
         return job_fault(format!("size {size}"));
     }
     let mut vertices: Vec<(u32, Matrix)> = found
