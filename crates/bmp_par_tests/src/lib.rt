@@ -1,0 +1,10 @@
+//! Tests of tasks and pieces: who passes the gate, that two threads are at work at once, and what comes of it by any
+//! number of workers.
+#![tactic(auto)]
+
+#[cfg(test)]
+mod gates;
+#[cfg(test)]
+mod pieces;
+#[cfg(test)]
+mod tasks;
