@@ -1,5 +1,5 @@
 //! The rules of a job, and its moment graph.
-use crate::cert::Job;
+use crate::cert::{Job, Lattice};
 use crate::tables::count;
 use crate::{Exponents, Fault};
 use std::collections::{HashMap, HashSet};
@@ -164,8 +164,21 @@ pub fn accept(job: &Job) -> Result<Graph, Fault> {
         .collect();
     vertices.sort();
     let graph = graph_of(job, &positive, &vertices);
+    if let Some(edge) = graph.edges.iter().find(|e| e.label == [0; 6]) {
+        return job_fault(format!("label {} {}", edge.lower, edge.upper));
+    }
     check_gkm(job, &graph)?;
     Ok(graph)
+}
+
+/// Coordinate i of a root's linear form: by simple roots, or by fundamental weights.
+pub fn form_of(job: &Job, root: &Root, i: usize) -> i32 {
+    match job.lattice {
+        Lattice::Weight if i < job.rank => {
+            (0..job.rank).map(|j| job.cartan[i * job.rank + j] as i32 * root[j]).sum()
+        }
+        _ => root[i],
+    }
 }
 
 pub fn graph_of(job: &Job, positive: &[(Root, Root)], vertices: &[(u32, Matrix)]) -> Graph {
@@ -175,7 +188,7 @@ pub fn graph_of(job: &Job, positive: &[(Root, Root)], vertices: &[(u32, Matrix)]
     let mut edges = Vec::new();
     for (root, coroot) in positive {
         let t = reflection(job, root, coroot);
-        let label = std::array::from_fn(|i| root[i].rem_euclid(p) as u8);
+        let label = std::array::from_fn(|i| form_of(job, root, i).rem_euclid(p) as u8);
         for (x, v) in vertices.iter().enumerate() {
             match numbers.get(&times(&t, &v.1, r)) {
                 Some(&y) if vertices[y].0 > v.0 => edges.push(Edge {
