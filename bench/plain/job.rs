@@ -113,7 +113,6 @@ pub struct Graph {
     pub edges: Vec<Edge>,
     /// By vertex the first edge that goes up from it; last the number of edges.
     pub starts: Vec<usize>,
-    pub above: Vec<Vec<bool>>,
 }
 
 pub fn accept(job: &Job) -> Result<Graph, Fault> {
@@ -205,21 +204,27 @@ pub fn graph_of(job: &Job, positive: &[(Root, Root)], vertices: &[(u32, Matrix)]
     let starts = (0..=n)
         .map(|x| edges.partition_point(|e| e.lower < x))
         .collect::<Vec<_>>();
-    let mut above = vec![vec![false; n]; n];
-    for x in (0..n).rev() {
-        for e in starts[x]..starts[x + 1] {
-            let y = edges[e].upper;
-            let upper = std::mem::take(&mut above[y]);
-            above[x].iter_mut().zip(&upper).for_each(|(a, b)| *a |= b);
-            above[x][y] = true;
-            above[y] = upper;
-        }
-    }
     Graph {
         lengths: vertices.iter().map(|v| v.0).collect(),
         edges,
         starts,
-        above,
+    }
+}
+
+impl Graph {
+    /// By vertex which vertices are above it.
+    pub fn above(&self) -> Vec<Vec<bool>> {
+        let n = self.lengths.len();
+        let mut above = vec![vec![false; n]; n];
+        for x in (0..n).rev() {
+            for edge in &self.edges[self.starts[x]..self.starts[x + 1]] {
+                let upper = std::mem::take(&mut above[edge.upper]);
+                above[x].iter_mut().zip(&upper).for_each(|(a, b)| *a |= b);
+                above[x][edge.upper] = true;
+                above[edge.upper] = upper;
+            }
+        }
+        above
     }
 }
 
@@ -232,10 +237,12 @@ pub fn check_gkm(job: &Job, graph: &Graph) -> Result<(), Fault> {
             })
         })
     };
-    for x in 0..graph.lengths.len() {
-        let ends: Vec<usize> = (0..graph.edges.len())
-            .filter(|&e| graph.edges[e].lower == x || graph.edges[e].upper == x)
-            .collect();
+    let mut ends = vec![Vec::new(); graph.lengths.len()];
+    for (e, edge) in graph.edges.iter().enumerate() {
+        ends[edge.lower].push(e);
+        ends[edge.upper].push(e);
+    }
+    for (x, ends) in ends.iter().enumerate() {
         for (i, &a) in ends.iter().enumerate() {
             for &b in &ends[i + 1..] {
                 if parallel(&graph.edges[a].label, &graph.edges[b].label) {

@@ -47,6 +47,7 @@ fn check(bytes: &[u8]) -> Result<Vec<u8>, Fault> {
         cert: &cert,
         graph: &graph,
         tables,
+        above: if cert.version == 1 { graph.above() } else { Vec::new() },
         r: cert.job.rank,
         n: graph.lengths.len(),
     };

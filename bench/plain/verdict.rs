@@ -10,6 +10,8 @@ pub struct Checker<'a> {
     pub cert: &'a Cert,
     pub graph: &'a Graph,
     pub tables: Tables,
+    /// By vertex which vertices are above it, where the version needs it.
+    pub above: Vec<Vec<bool>>,
     pub r: usize,
     pub n: usize,
 }
@@ -113,7 +115,7 @@ impl<'a> Checker<'a> {
                 }
                 let over = |table: &Vec<Vec<u64>>| {
                     (0..n)
-                        .filter(|&y| self.graph.above[x][y])
+                        .filter(|&y| self.above[x][y])
                         .map(|y| table[y][d])
                         .sum()
                 };
@@ -325,7 +327,7 @@ impl<'a> Checker<'a> {
         let block = &self.cert.part(x).blocks[d];
         work.equations.clear();
         let mut start = 0;
-        for y in (0..self.n).filter(|&y| self.graph.above[x][y]) {
+        for y in (0..self.n).filter(|&y| self.above[x][y]) {
             work.starts[y] = start;
             start += self.stalk(y, d) as usize;
             for e in self.up(y) {
