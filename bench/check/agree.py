@@ -108,7 +108,7 @@ def main():
     statuses = {}
     for _ in range(count):
         text = altered(pick.choice(texts), pick)
-        first, second = answer([bmp, "check"], text), answer([plain], text)
+        first, second = answer([bmp, "check"], text), answer([plain, "check"], text)
         if first != second:
             print("they differ on", repr(text), first, second, sep="\n")
             sys.exit(1)

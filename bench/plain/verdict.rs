@@ -1,6 +1,8 @@
 //! The comparisons of a certificate, in their order.
 use crate::cert::{Block, Cert, Part, Run, MOST};
+use crate::families::Stalks;
 use crate::job::Graph;
+use crate::levels::{LevelChecker, LevelSizes};
 use crate::tables::{count, Rows, Tables};
 use crate::{Entry, Exponents, Fault};
 
@@ -8,6 +10,8 @@ pub struct Checker<'a> {
     pub cert: &'a Cert,
     pub graph: &'a Graph,
     pub tables: Tables,
+    /// By vertex which vertices are above it, where the version needs it.
+    pub above: Vec<Vec<bool>>,
     pub r: usize,
     pub n: usize,
 }
@@ -61,6 +65,15 @@ impl<'a> Checker<'a> {
         self.graph.starts[x]..self.graph.starts[x + 1]
     }
 
+    pub fn levels(&self) -> LevelChecker<'_> {
+        LevelChecker {
+            cert: self.cert,
+            stalks: Stalks::new(self.graph, &self.tables, self.r),
+            n: self.n,
+            p: self.tables.p,
+        }
+    }
+
     pub fn shape(&self) -> Result<Vec<Vec<Sizes>>, Fault> {
         let (cert, n) = (self.cert, self.n);
         if cert.parts.len() != n {
@@ -77,15 +90,32 @@ impl<'a> Checker<'a> {
                     .collect()
             })
             .collect();
+        let levels = self.levels();
+        let mut members: Vec<u64> = (0..degrees).map(|d| count(self.r, d) as u64).collect();
+        let mut fresh = vec![0; degrees];
         let mut all: Vec<Vec<Sizes>> = Vec::new();
         for x in (0..n.saturating_sub(1)).rev() {
             let part = cert.part(x);
             let mut index = self.vertex_shape(x, part)?;
             let mut row = Vec::new();
+            if x + 1 < n && self.graph.lengths[x] < self.graph.lengths[x + 1] {
+                (0..degrees).for_each(|d| members[d] += std::mem::take(&mut fresh[d]));
+            }
             for d in 0..degrees {
+                if cert.version > 1 {
+                    let sizes = LevelSizes {
+                        members: members[d],
+                        stalk: stalks[x][d],
+                        boundary: boundaries[x][d],
+                    };
+                    levels.block_shape(x, d, index, &part.blocks[d], &sizes)?;
+                    fresh[d] += (part.blocks[d].basis.to - part.blocks[d].basis.from) as u64;
+                    index = 0;
+                    continue;
+                }
                 let over = |table: &Vec<Vec<u64>>| {
                     (0..n)
-                        .filter(|&y| self.graph.above[x][y])
+                        .filter(|&y| self.above[x][y])
                         .map(|y| table[y][d])
                         .sum()
                 };
@@ -134,7 +164,7 @@ impl<'a> Checker<'a> {
         block: &Block,
         sizes: &Sizes,
     ) -> Result<(), Fault> {
-        let free = (block.tuples.to - block.tuples.from) as u64;
+        let free = (block.basis.to - block.basis.from) as u64;
         let total = block.pivots.len() as u64 + free;
         if total != sizes.positions {
             return refused(x, d, "Shape", first, 0, total, sizes.positions);
@@ -148,7 +178,7 @@ impl<'a> Checker<'a> {
             .max(sizes.stalk)
             .max(sizes.boundary);
         let runs = [
-            (block.tuples, sizes.positions),
+            (block.basis, sizes.positions),
             (block.rows, sizes.equations),
             (block.covers, sizes.stalk),
             (block.sources, free),
@@ -297,7 +327,7 @@ impl<'a> Checker<'a> {
         let block = &self.cert.part(x).blocks[d];
         work.equations.clear();
         let mut start = 0;
-        for y in (0..self.n).filter(|&y| self.graph.above[x][y]) {
+        for y in (0..self.n).filter(|&y| self.above[x][y]) {
             work.starts[y] = start;
             start += self.stalk(y, d) as usize;
             for e in self.up(y) {
@@ -322,8 +352,8 @@ impl<'a> Checker<'a> {
         let p = self.tables.p;
         let mut marks = vec![false; sizes.positions as usize];
         block.pivots.iter().for_each(|&k| marks[k as usize] = true);
-        for index in 0..block.tuples.to - block.tuples.from {
-            let tuple = self.cert.vector(block.tuples.from + index);
+        for index in 0..block.basis.to - block.basis.from {
+            let tuple = self.cert.vector(block.basis.from + index);
             let sums = &mut work.sums[..sizes.positions as usize];
             sums.fill(0);
             tuple
@@ -343,7 +373,7 @@ impl<'a> Checker<'a> {
                     );
                 }
             }
-            let free = (block.tuples.to - block.tuples.from) as u64;
+            let free = (block.basis.to - block.basis.from) as u64;
             for (k, &(e, i)) in work.equations.iter().enumerate() {
                 let edge = &self.graph.edges[e as usize];
                 let (lower, upper) = &maps[e as usize];
@@ -424,7 +454,7 @@ impl<'a> Checker<'a> {
     ) -> Vec<u32> {
         work.sums.fill(0);
         for term in terms {
-            let tuple = self.cert.vector(block.tuples.from + term.place as usize);
+            let tuple = self.cert.vector(block.basis.from + term.place as usize);
             tuple.iter().for_each(|e| {
                 work.sums[e.place as usize] += u32::from(term.value) * u32::from(e.value)
             });

@@ -4,7 +4,15 @@ use crate::{Entry, Fault};
 
 pub const MOST: i64 = 4_294_967_295;
 
+#[derive(Clone, Copy, PartialEq)]
+pub enum Lattice {
+    Plain,
+    Root,
+    Weight,
+}
+
 pub struct Job {
+    pub lattice: Lattice,
     pub rank: usize,
     pub cartan: Vec<i64>,
     pub prime: u8,
@@ -22,7 +30,8 @@ pub struct Run {
 #[derive(Default)]
 pub struct Block {
     pub pivots: Vec<u32>,
-    pub tuples: Run,
+    /// Tuples in version 1, kernel vectors of the boundary map in the others.
+    pub basis: Run,
     pub rows: Run,
     pub covers: Run,
     pub sources: Run,
@@ -39,6 +48,7 @@ pub struct Part {
 
 /// All vectors stand one behind the other.
 pub struct Cert {
+    pub version: i64,
     pub job: Job,
     pub parts: Vec<Part>,
     pub entries: Vec<Entry>,
@@ -56,7 +66,16 @@ impl Cert {
     }
 }
 
-pub fn read_job(text: &mut Text) -> Result<Job, Fault> {
+/// The line `lattice`, which a job text 2 and a certificate of version 3 have.
+pub fn read_lattice(text: &mut Text, there: bool) -> Result<Lattice, Fault> {
+    Ok(match there {
+        false => Lattice::Plain,
+        true if text.single(b"lattice", 0, 1)? == 0 => Lattice::Root,
+        true => Lattice::Weight,
+    })
+}
+
+pub fn read_job(text: &mut Text, lattice: Lattice) -> Result<Job, Fault> {
     let rank = text.single(b"rank", 0, 16)? as usize;
     let mut cartan = Vec::new();
     for _ in 0..rank {
@@ -76,6 +95,7 @@ pub fn read_job(text: &mut Text) -> Result<Job, Fault> {
     line.finish()?;
     let degree = text.single(b"degree", 0, 255)? as usize;
     Ok(Job {
+        lattice,
         rank,
         cartan,
         prime,
@@ -114,17 +134,7 @@ pub fn read_vectors(
     })
 }
 
-pub fn read_block(
-    text: &mut Text,
-    cert: &mut Cert,
-    d: usize,
-    generators: u64,
-) -> Result<Block, Fault> {
-    let mut line = text.line(b"block")?;
-    line.number(d as i64, d as i64)?;
-    let rank = line.number(0, MOST)?;
-    let free = line.number(0, MOST)? as u64;
-    line.finish()?;
+pub fn read_pivots(text: &mut Text, rank: u64) -> Result<Vec<u32>, Fault> {
     let mut line = text.line(b"pivots")?;
     let mut pivots = Vec::new();
     let mut next = 0;
@@ -134,18 +144,41 @@ pub fn read_block(
         next = place + 1;
     }
     line.finish()?;
-    let tuples = read_vectors(text, cert, b"tuple", free)?;
-    let rows = read_vectors(text, cert, b"row", rank as u64)?;
-    let covers = read_vectors(text, cert, b"cover", free)?;
-    let sources = read_vectors(text, cert, b"source", generators)?;
-    let duals = read_vectors(text, cert, b"dual", generators)?;
+    Ok(pivots)
+}
+
+/// A block by whole section spaces.
+pub fn read_space_block(text: &mut Text, cert: &mut Cert, d: i64, generators: u64) -> Result<Block, Fault> {
+    let mut line = text.line(b"block")?;
+    line.number(d, d)?;
+    let rank = line.number(0, MOST)? as u64;
+    let free = line.number(0, MOST)? as u64;
+    line.finish()?;
     Ok(Block {
-        pivots,
-        tuples,
-        rows,
-        covers,
-        sources,
-        duals,
+        pivots: read_pivots(text, rank)?,
+        basis: read_vectors(text, cert, b"tuple", free)?,
+        rows: read_vectors(text, cert, b"row", rank)?,
+        covers: read_vectors(text, cert, b"cover", free)?,
+        sources: read_vectors(text, cert, b"source", generators)?,
+        duals: read_vectors(text, cert, b"dual", generators)?,
+    })
+}
+
+/// A block by levels.
+pub fn read_level_block(text: &mut Text, cert: &mut Cert, d: i64, generators: u64) -> Result<Block, Fault> {
+    let mut line = text.line(b"block")?;
+    line.number(d, d)?;
+    let members = line.number(0, MOST)? as u64;
+    let rank = line.number(0, MOST)? as u64;
+    let free = line.number(0, MOST)? as u64;
+    line.finish()?;
+    Ok(Block {
+        pivots: read_pivots(text, rank)?,
+        covers: read_vectors(text, cert, b"cover", members)?,
+        sources: read_vectors(text, cert, b"source", generators)?,
+        duals: read_vectors(text, cert, b"dual", generators)?,
+        basis: read_vectors(text, cert, b"basis", free)?,
+        rows: read_vectors(text, cert, b"row", rank)?,
     })
 }
 
@@ -172,7 +205,10 @@ pub fn read_part(text: &mut Text, cert: &mut Cert, x: i64, last: bool) -> Result
     let mut blocks = Vec::new();
     for d in 0..=cert.job.degree {
         let generators = degrees.iter().filter(|&&e| e == d).count() as u64;
-        blocks.push(read_block(text, cert, d, generators)?);
+        blocks.push(match cert.version {
+            1 => read_space_block(text, cert, d as i64, generators)?,
+            _ => read_level_block(text, cert, d as i64, generators)?,
+        });
     }
     Ok(Part {
         degrees,
@@ -182,15 +218,38 @@ pub fn read_part(text: &mut Text, cert: &mut Cert, x: i64, last: bool) -> Result
     })
 }
 
+pub fn read_job_text(bytes: &[u8]) -> Result<Job, Fault> {
+    let mut text = Text {
+        bytes,
+        at: 0,
+        line: 0,
+    };
+    let lattice = text.single(b"bmp-job", 1, 2)? == 2;
+    let lattice = read_lattice(&mut text, lattice)?;
+    let job = read_job(&mut text, lattice)?;
+    read_end(&mut text)?;
+    Ok(job)
+}
+
+pub fn read_end(text: &mut Text) -> Result<(), Fault> {
+    text.line(b"end")?.finish()?;
+    if text.at < text.bytes.len() {
+        return text_fault(text.line + 1, "TrailingText");
+    }
+    Ok(())
+}
+
 pub fn read_cert(bytes: &[u8]) -> Result<Cert, Fault> {
     let mut text = Text {
         bytes,
         at: 0,
         line: 0,
     };
-    text.single(b"bmp-cert", 1, 1)?;
-    let job = read_job(&mut text)?;
+    let version = text.single(b"bmp-cert", 1, 3)?;
+    let lattice = read_lattice(&mut text, version == 3)?;
+    let job = read_job(&mut text, lattice)?;
     let mut cert = Cert {
+        version,
         job,
         parts: Vec::new(),
         entries: Vec::new(),
@@ -201,9 +260,6 @@ pub fn read_cert(bytes: &[u8]) -> Result<Cert, Fault> {
         let part = read_part(&mut text, &mut cert, x, x == vertices - 1)?;
         cert.parts.push(part);
     }
-    text.line(b"end")?.finish()?;
-    if text.at < bytes.len() {
-        return text_fault(text.line + 1, "TrailingText");
-    }
+    read_end(&mut text)?;
     Ok(cert)
 }

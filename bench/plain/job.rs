@@ -1,5 +1,5 @@
 //! The rules of a job, and its moment graph.
-use crate::cert::Job;
+use crate::cert::{Job, Lattice};
 use crate::tables::count;
 use crate::{Exponents, Fault};
 use std::collections::{HashMap, HashSet};
@@ -113,7 +113,6 @@ pub struct Graph {
     pub edges: Vec<Edge>,
     /// By vertex the first edge that goes up from it; last the number of edges.
     pub starts: Vec<usize>,
-    pub above: Vec<Vec<bool>>,
 }
 
 pub fn accept(job: &Job) -> Result<Graph, Fault> {
@@ -164,8 +163,21 @@ pub fn accept(job: &Job) -> Result<Graph, Fault> {
         .collect();
     vertices.sort();
     let graph = graph_of(job, &positive, &vertices);
+    if let Some(edge) = graph.edges.iter().find(|e| e.label == [0; 6]) {
+        return job_fault(format!("label {} {}", edge.lower, edge.upper));
+    }
     check_gkm(job, &graph)?;
     Ok(graph)
+}
+
+/// Coordinate i of a root's linear form: by simple roots, or by fundamental weights.
+pub fn form_of(job: &Job, root: &Root, i: usize) -> i32 {
+    match job.lattice {
+        Lattice::Weight if i < job.rank => {
+            (0..job.rank).map(|j| job.cartan[i * job.rank + j] as i32 * root[j]).sum()
+        }
+        _ => root[i],
+    }
 }
 
 pub fn graph_of(job: &Job, positive: &[(Root, Root)], vertices: &[(u32, Matrix)]) -> Graph {
@@ -175,7 +187,7 @@ pub fn graph_of(job: &Job, positive: &[(Root, Root)], vertices: &[(u32, Matrix)]
     let mut edges = Vec::new();
     for (root, coroot) in positive {
         let t = reflection(job, root, coroot);
-        let label = std::array::from_fn(|i| root[i].rem_euclid(p) as u8);
+        let label = std::array::from_fn(|i| form_of(job, root, i).rem_euclid(p) as u8);
         for (x, v) in vertices.iter().enumerate() {
             match numbers.get(&times(&t, &v.1, r)) {
                 Some(&y) if vertices[y].0 > v.0 => edges.push(Edge {
@@ -192,21 +204,27 @@ pub fn graph_of(job: &Job, positive: &[(Root, Root)], vertices: &[(u32, Matrix)]
     let starts = (0..=n)
         .map(|x| edges.partition_point(|e| e.lower < x))
         .collect::<Vec<_>>();
-    let mut above = vec![vec![false; n]; n];
-    for x in (0..n).rev() {
-        for e in starts[x]..starts[x + 1] {
-            let y = edges[e].upper;
-            let upper = std::mem::take(&mut above[y]);
-            above[x].iter_mut().zip(&upper).for_each(|(a, b)| *a |= b);
-            above[x][y] = true;
-            above[y] = upper;
-        }
-    }
     Graph {
         lengths: vertices.iter().map(|v| v.0).collect(),
         edges,
         starts,
-        above,
+    }
+}
+
+impl Graph {
+    /// By vertex which vertices are above it.
+    pub fn above(&self) -> Vec<Vec<bool>> {
+        let n = self.lengths.len();
+        let mut above = vec![vec![false; n]; n];
+        for x in (0..n).rev() {
+            for edge in &self.edges[self.starts[x]..self.starts[x + 1]] {
+                let upper = std::mem::take(&mut above[edge.upper]);
+                above[x].iter_mut().zip(&upper).for_each(|(a, b)| *a |= b);
+                above[x][edge.upper] = true;
+                above[edge.upper] = upper;
+            }
+        }
+        above
     }
 }
 
@@ -219,10 +237,12 @@ pub fn check_gkm(job: &Job, graph: &Graph) -> Result<(), Fault> {
             })
         })
     };
-    for x in 0..graph.lengths.len() {
-        let ends: Vec<usize> = (0..graph.edges.len())
-            .filter(|&e| graph.edges[e].lower == x || graph.edges[e].upper == x)
-            .collect();
+    let mut ends = vec![Vec::new(); graph.lengths.len()];
+    for (e, edge) in graph.edges.iter().enumerate() {
+        ends[edge.lower].push(e);
+        ends[edge.upper].push(e);
+    }
+    for (x, ends) in ends.iter().enumerate() {
         for (i, &a) in ends.iter().enumerate() {
             for &b in &ends[i + 1..] {
                 if parallel(&graph.edges[a].label, &graph.edges[b].label) {

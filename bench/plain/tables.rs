@@ -36,6 +36,8 @@ pub struct Tables {
     pub number: HashMap<Exponents, usize>,
     /// By label and degree, for each monomial its normal form's coefficients by pure monomials.
     pub normal: HashMap<Exponents, Vec<Vec<Vec<Entry>>>>,
+    /// By two degrees, for each two monomials of these the number of their product.
+    pub products: Vec<Vec<Vec<u32>>>,
 }
 
 impl Tables {
@@ -51,7 +53,11 @@ impl Tables {
             listing,
             number,
             normal: HashMap::new(),
+            products: Vec::new(),
         };
+        tables.products = (0..=job.degree)
+            .map(|a| (0..=job.degree - a).map(|b| tables.product_numbers(a, b)).collect())
+            .collect();
         for edge in &graph.edges {
             if !tables.normal.contains_key(&edge.label) {
                 let forms = (0..=job.degree)
@@ -61,6 +67,12 @@ impl Tables {
             }
         }
         tables
+    }
+
+    fn product_numbers(&self, a: usize, b: usize) -> Vec<u32> {
+        let times = |m: &Exponents, n: &Exponents| self.number[&std::array::from_fn(|k| m[k] + n[k])] as u32;
+        let (left, right) = (&self.listing[a], &self.listing[b]);
+        left.iter().flat_map(|m| right.iter().map(move |n| times(m, n))).collect()
     }
 
     pub fn normal_forms(&self, label: &Exponents, d: usize) -> Vec<Vec<Entry>> {
