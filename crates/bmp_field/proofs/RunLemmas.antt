@@ -11,7 +11,9 @@ pub record IsAddedSoFar (p c : ℕ) (from : List ℕ) (n : ℕ) (old new : List 
   pub rest : (j : ℕ) → n ≤ j → get_or new j 0 ≡ get_or old j 0
 
 -- one place more
-pub added_more : (p c : ℕ) (from : List ℕ) (n : ℕ) (old new : List ℕ) (total : ℕ) → n < length old → IsAddedSoFar p c from n old new → total ≡ (get_or new n 0 + c * get_or from n 0) % p → IsAddedSoFar p c from (n + 1) old (set new n total)
+pub added_more : (p c : ℕ) (from : List ℕ) (n : ℕ) (old new : List ℕ) (total : ℕ) → n < length old →
+    IsAddedSoFar p c from n old new → total ≡ (get_or new n 0 + c * get_or from n 0) % p →
+    IsAddedSoFar p c from (n + 1) old (set new n total)
 added_more p c from n old new total within so_far is_total = record {
   length_is = length-set new n total ∙ so_far.length_is;
   added = λ j l. elim (cases_eq j n) [
@@ -27,16 +29,19 @@ added_more p c from n old new total within so_far is_total = record {
 }
 
 -- as a field adds it
-pub field_sum : (p c x y sum number term value total : ℕ) → sum ≡ x → number ≡ y → term ≡ (c * number) % p → value ≡ (sum + term) % p → total ≡ value → total ≡ (x + c * y) % p
+pub field_sum : (p c x y sum number term value total : ℕ) → sum ≡ x → number ≡ y → term ≡ (c * number) % p →
+    value ≡ (sum + term) % p → total ≡ value → total ≡ (x + c * y) % p
 field_sum p c x y sum number term value total is_sum is_number is_term is_value is_total =
-    is_total ∙ is_value ∙ ap₂ (λ s t. (s + t) % p) is_sum (is_term ∙ ap (λ n. (c * n) % p) is_number) ∙ add-mod-mod x (c * y) p
+    is_total ∙ is_value ∙ ap₂ (λ s t. (s + t) % p) is_sum (is_term ∙ ap (λ n. (c * n) % p) is_number)
+    ∙ add-mod-mod x (c * y) p
 
 -- p less a number is p - 1 times the number
 less_by_one : (q x y : ℕ) → y < suc q → (x + (suc q - y)) % suc q ≡ (x + q * y) % suc q
 less_by_one q x y below =
     let whole : x + (suc q - y) + y ≡ x + suc q * 1 = omega arith in
     let product : x + q * y + y ≡ x + suc q * y = omega arith in
-    same_cancel (suc q) (x + (suc q - y)) (x + q * y) y (ap (λ z. z % suc q) whole ∙ same_past (suc q) x 1 ∙ sym (ap (λ z. z % suc q) product ∙ same_past (suc q) x y))
+    same_cancel (suc q) (x + (suc q - y)) (x + q * y) y (ap (λ z. z % suc q) whole ∙ same_past (suc q) x 1
+    ∙ sym (ap (λ z. z % suc q) product ∙ same_past (suc q) x y))
 
 pub less_is_times : (p x y : ℕ) → y < p → (x + (p - y)) % p ≡ (x + (p - 1) * y) % p
 less_is_times zero x y below = absurd (omega arith)

@@ -1,5 +1,6 @@
 -- What every field of numbers keeps.
---   FieldLaws size is_value num    the values of a field f are the numbers below size f, of which each but 0 has an inverse
+--   FieldLaws size is_value num    the values of a field f are the numbers below size f, of which each but 0 has an
+--                                  inverse
 use Rattle.std.specs.Prelude.{◌≡◌, ◌≢◌, ℕ, ◌*◌, ◌%◌, ◌<◌, ◌≤◌}
 
 pub record FieldLaws {F E : Type 0} (size : F → ℕ) (is_value : F → E → Type 0) (num : F → E → ℕ) : Type 0 where

@@ -43,7 +43,8 @@ holds_below t (suc n) h k l =
       | inr other ↦ holds_below t n parts.1 k (omega arith)
     ]
 
-found_listed : (s t : ℕ → Bool) (qs : List ℕ) → list_any s qs ≡ true → list_all t qs ≡ true → (q : ℕ) × (s q ≡ true) × (t q ≡ true)
+found_listed : (s t : ℕ → Bool) (qs : List ℕ) → list_any s qs ≡ true → list_all t qs ≡ true → (q : ℕ) × (s q ≡ true) ×
+    (t q ≡ true)
 found_listed s t [] h all = absurd (true≢false (sym h))
 found_listed s t (q ∷ qs) h all =
     let parts = and_parts (t q) (list_all t qs) all in
@@ -53,11 +54,13 @@ found_listed s t (q ∷ qs) h all =
     ]
 
 listed_makes_field : (p : ℕ) → IsTrue (is_listed p) → makes_field p ≡ true
-listed_makes_field p h = let q = found_listed (λ q. p == q) makes_field listed_primes h refl in ap makes_field (eqb-true p q.0 q.1) ∙ q.2
+listed_makes_field p h = let q = found_listed (λ q. p == q) makes_field listed_primes h refl in
+    ap makes_field (eqb-true p q.0 q.1) ∙ q.2
 
 pub listed_inverse : (p : ℕ) → IsTrue (is_listed p) → (n : ℕ) → n < p → n ≢ 0 → (m : ℕ) × (m < p) × ((n * m) % p ≡ 1)
 listed_inverse p h n below other =
-    elim (or_cases (n == 0) (some_below (is_inverse p n) p) (holds_below (λ a. (a == 0) || some_below (is_inverse p a) p) p (listed_makes_field p h) n below)) [
+    elim (or_cases (n == 0) (some_below (is_inverse p n) p)
+    (holds_below (λ a. (a == 0) || some_below (is_inverse p a) p) p (listed_makes_field p h) n below)) [
       | inl none ↦ absurd (other (eqb-true n 0 none))
       | inr some ↦ let m = found_below (is_inverse p n) p some in (m.0, m.1, eqb-true ((n * m.0) % p) 1 m.2)
     ]

@@ -1,5 +1,6 @@
 -- The primes of the fields.
---   listed_primes, is_listed p     the primes up to 61: the laws of a field are proved for each, and a field can be made
+--   listed_primes, is_listed p     the primes up to 61: the laws of a field are proved for each, and a field can be
+--                                  made
 use Rattle.std.specs.Prelude.{ℕ, Bool, ◌==◌, List, [], ◌∷◌}
 use Rattle.std.specs.List.{list_any}
 

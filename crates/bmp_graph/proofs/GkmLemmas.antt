@@ -29,7 +29,8 @@ AreParallel-sym p r a b h i j hi hj =
     rw (left, right) (h j i hj hi)
 
 -- a test of two labels is a test of the forms that they are
-pub AreParallel-same : (P : Type 0) (p q r s : ℕ) (a b c d : ℕ → ℕ) → p ≡ q → r ≡ s → a ≡ c → b ≡ d → P ↔ AreParallel p r a b → P ↔ AreParallel q s c d
+pub AreParallel-same : (P : Type 0) (p q r s : ℕ) (a b c d : ℕ → ℕ) → p ≡ q → r ≡ s → a ≡ c → b ≡ d → P ↔
+    AreParallel p r a b → P ↔ AreParallel q s c d
 AreParallel-same P p q r s a b c d primes ranks first second test =
     subst (λ n. P ↔ AreParallel n s c d) primes
     (subst (λ n. P ↔ AreParallel p n c d) ranks
@@ -37,7 +38,8 @@ AreParallel-same P p q r s a b c d primes ranks first second test =
 
 -- an edge at x that doesn't end there starts there
 pub starts_there : (g : Graph) (x e u : ℕ) → IsEndOf g x e → u ≡ upper g e → u ≢ x → lower g e ≡ x
-starts_there g x e u at upper_is apart = elim at.is_end [ inl starts ↦ starts | inr ends ↦ absurd (apart (upper_is ∙ ends)) ]
+starts_there g x e u at upper_is apart =
+    elim at.is_end [ inl starts ↦ starts | inr ends ↦ absurd (apart (upper_is ∙ ends)) ]
 
 module _ (g : Graph) (is : IsGraph g) (x : ℕ) where
   -- an edge that ends at x comes before each that starts there
@@ -57,14 +59,16 @@ module _ (g : Graph) (is : IsGraph g) (x : ℕ) where
     after = next.after;
     is_end = record { is_edge = within; is_end = inr (next.ends within) };
     between = λ d l lt h. elim h.is_end [
-      | inl starts ↦ let later = ends_before_starts e d within h.is_edge (next.ends within) starts in absurd (omega arith)
+      | inl starts ↦ let later = ends_before_starts e d within h.is_edge (next.ends within) starts in
+          absurd (omega arith)
       | inr ends ↦ next.between d l lt ends
     ];
   }
 
   -- where no edge from there on ends at x, the first that starts there
   pub IsNextEnd-starting : (from e first past : ℕ) → IsNextEnding g x from e → edge_count g ≤ e
-      → ((d : ℕ) → d < from → d < edge_count g → lower g d < x) → IsUpRange g x first past → first < past → IsNextEnd g x from first
+      → ((d : ℕ) → d < from → d < edge_count g → lower g d < x) → IsUpRange g x first past → first < past →
+      IsNextEnd g x from first
   IsNextEnd-starting from e first past next none earlier range some =
       let is_edge : first < edge_count g = omega (arith, range.within) in
       let starts = range.inside first (omega arith) some in
@@ -77,7 +81,8 @@ module _ (g : Graph) (is : IsGraph g) (x : ℕ) where
         ];
       }
 
-  pub HasNoEnd-left : (from e first past : ℕ) → IsNextEnding g x from e → edge_count g ≤ e → IsUpRange g x first past → past ≤ first → HasNoEnd g x from
+  pub HasNoEnd-left : (from e first past : ℕ) → IsNextEnding g x from e → edge_count g ≤ e → IsUpRange g x first past →
+      past ≤ first → HasNoEnd g x from
   HasNoEnd-left from e first past next none range empty d l h =
       elim h.is_end [
         | inl starts ↦ elim (cases_lt d first) [
@@ -88,16 +93,22 @@ module _ (g : Graph) (is : IsGraph g) (x : ℕ) where
       ]
 
   -- after an edge that starts at x comes the next by number, if it starts there
-  pub IsNextEnd-more : (e first past : ℕ) → e < edge_count g → lower g e ≡ x → IsUpRange g x first past → e + 1 < past → IsNextEnd g x (e + 1) (e + 1)
+  pub IsNextEnd-more : (e first past : ℕ) → e < edge_count g → lower g e ≡ x → IsUpRange g x first past → e + 1 < past →
+      IsNextEnd g x (e + 1) (e + 1)
   IsNextEnd-more e first past is_edge starts range more =
-      let inside : first ≤ e = elim (cases_lt e first) [ inl lt ↦ absurd (omega (arith, range.before e lt)) | inr le ↦ le ] in
+      let inside : first ≤ e =
+      elim (cases_lt e first) [ inl lt ↦ absurd (omega (arith, range.before e lt)) | inr le ↦ le ] in
       record {
         after = omega arith;
-        is_end = record { is_edge = omega (arith, range.within); is_end = inl (range.inside (e + 1) (omega arith) more) };
+        is_end = record {
+          is_edge = omega (arith, range.within);
+          is_end = inl (range.inside (e + 1) (omega arith) more);
+        };
         between = λ d l lt h. absurd (omega arith);
       }
 
-  pub HasNoEnd-more : (e first past : ℕ) → e < edge_count g → lower g e ≡ x → IsUpRange g x first past → past ≤ e + 1 → HasNoEnd g x (e + 1)
+  pub HasNoEnd-more : (e first past : ℕ) → e < edge_count g → lower g e ≡ x → IsUpRange g x first past → past ≤ e + 1 →
+      HasNoEnd g x (e + 1)
   HasNoEnd-more e first past is_edge starts range last d l h =
       elim h.is_end [
         | inl at ↦ omega (arith, range.after d (omega arith) h.is_edge)
@@ -112,7 +123,8 @@ pub record IsSearching (g : Graph) (x start : ℕ) (Q : ℕ → Type 0) (next : 
   pub before : (d : ℕ) → d < from → Q d
 
 module _ (g : Graph) (x start : ℕ) (Q : ℕ → Type 0) where
-  pub searched_next : (next : Option ℕ) (e : ℕ) → IsSearching g x start Q next → next ≡ Some e → IsEndOf g x e × (start ≤ e)
+  pub searched_next : (next : Option ℕ) (e : ℕ) → IsSearching g x start Q next → next ≡ Some e → IsEndOf g x e ×
+      (start ≤ e)
   searched_next next e so_far is =
       let at : IsNextEnd g x so_far.from e = rw is at so_far.next_is in
       let least = so_far.after in
@@ -120,12 +132,14 @@ module _ (g : Graph) (x start : ℕ) (Q : ℕ → Type 0) where
       (at.is_end, omega arith)
 
   module _ (others : (d : ℕ) → (IsEndOf g x d → ⊥) → Q d) where
-    pub searched_before : (next : Option ℕ) (e : ℕ) → IsSearching g x start Q next → next ≡ Some e → (d : ℕ) → d < e → Q d
+    pub searched_before : (next : Option ℕ) (e : ℕ) → IsSearching g x start Q next → next ≡ Some e → (d : ℕ) → d < e →
+        Q d
     searched_before next e so_far is d lt =
         let at : IsNextEnd g x so_far.from e = rw is at so_far.next_is in
         elim (cases_lt d so_far.from) [ inl earlier ↦ so_far.before d earlier | inr le ↦ others d (at.between d le lt) ]
 
-    pub searched_more : (next then : Option ℕ) (e : ℕ) → IsSearching g x start Q next → next ≡ Some e → Q e → IsNext g x (e + 1) then
+    pub searched_more : (next then : Option ℕ) (e : ℕ) → IsSearching g x start Q next → next ≡ Some e → Q e →
+        IsNext g x (e + 1) then
         → IsSearching g x start Q then
     searched_more next then e so_far is here after =
         let reached = (searched_next next e so_far is).1 in
@@ -149,14 +163,16 @@ no_partner g x d e none pair = none pair.second
 abbrev pub IsSearchingPartner : Graph → ℕ → ℕ → Option ℕ → Type 0
 IsSearchingPartner g x first next = IsSearching g x (first + 1) (λ e. IsParallelPair g x first e → ⊥) next
 
-pub found_partner : (g : Graph) (x first : ℕ) (next : Option ℕ) (e : ℕ) → IsEndOf g x first → IsSearchingPartner g x first next
+pub found_partner : (g : Graph) (x first : ℕ) (next : Option ℕ) (e : ℕ) → IsEndOf g x first →
+    IsSearchingPartner g x first next
     → next ≡ Some e → IsParallel g first e → IsFirstPartner g x first e
 found_partner g x first next e here so_far is parallel =
     let at = searched_next g x (first + 1) (λ d. IsParallelPair g x first d → ⊥) next e so_far is in
     let later = at.1 in
     record {
       pair = record { first = here; second = at.0; rising = omega arith; parallel = parallel };
-      before = searched_before g x (first + 1) (λ d. IsParallelPair g x first d → ⊥) (no_partner g x first) next e so_far is;
+      before = searched_before g x (first + 1) (λ d. IsParallelPair g x first d → ⊥) (no_partner g x first) next e
+          so_far is;
     }
 
 -- the search for an edge at x that is parallel to a later one
@@ -164,7 +180,8 @@ abbrev pub IsSearchingPair : Graph → ℕ → Option ℕ → Type 0
 IsSearchingPair g x next = IsSearching g x 0 (HasNoPartner g x) next
 
 -- the first pair at x is the first of all where no earlier vertex has one
-pub IsFirstParallelPair-at : (g : Graph) (x y d e : ℕ) → y ≡ x → IsFirstAt g x d e → ((w : ℕ) → w < x → (b : ℕ) → HasNoPartner g w b) → IsFirstParallelPair g y d e
+pub IsFirstParallelPair-at : (g : Graph) (x y d e : ℕ) → y ≡ x → IsFirstAt g x d e →
+    ((w : ℕ) → w < x → (b : ℕ) → HasNoPartner g w b) → IsFirstParallelPair g y d e
 IsFirstParallelPair-at g x y d e same at before =
     subst (λ z. IsFirstParallelPair g z d e) (sym same) (record { first_at = at; vertices_before = before })
 
@@ -172,7 +189,8 @@ IsFirstParallelPair-at g x y d e same at before =
 pub HasGkm-pairs : (g : Graph) → IsGraph g → ((x : ℕ) → x < vertex_count g → (d : ℕ) → HasNoPartner g x d) → HasGkm g
 HasGkm-pairs g is none x d e first second apart parallel =
     let ends = is.ends d first.is_edge in
-    let is_vertex : x < vertex_count g = elim first.is_end [ inl at ↦ omega (arith, ends.0) | inr at ↦ omega (arith, ends.1) ] in
+    let is_vertex : x < vertex_count g =
+    elim first.is_end [ inl at ↦ omega (arith, ends.0) | inr at ↦ omega (arith, ends.1) ] in
     elim (cases_lt d e) [
       | inl lt ↦ none x is_vertex d e (record { first = first; second = second; rising = lt; parallel = parallel })
       | inr le ↦ none x is_vertex e d (record {

@@ -9,7 +9,8 @@ use Rattle.bmp_graph.specs.Laws.{IsHigher}
 use Rattle.bmp_graph.specs.Faults.{HoldsBelow, KeepsLength, KeepsOrder}
 
 -- numbers none of which is below the one before it
-pub rising : (f : ℕ → ℕ) (n : ℕ) → ((i : ℕ) → i < n → (w : ℕ) → w + 1 ≡ i → f w ≤ f i) → (x y : ℕ) → x ≤ y → y < n → f x ≤ f y
+pub rising : (f : ℕ → ℕ) (n : ℕ) → ((i : ℕ) → i < n → (w : ℕ) → w + 1 ≡ i → f w ≤ f i) → (x y : ℕ) → x ≤ y → y < n →
+    f x ≤ f y
 rising f n step x zero le lt = let e : x ≡ 0 = omega arith in rw e (omega arith)
 rising f n step x (suc y) le lt =
     elim (eq-or-lt_of_le le) [
@@ -27,7 +28,8 @@ IsBefore-trans g c d e p q =
       | inr a ↦ elim q [ inl b ↦ inl (omega arith) | inr b ↦ inr (omega arith, omega arith) ]
     ]
 
-pub IsBefore-chain : (g : Graph) → HoldsBelow (edge_count g) (KeepsOrder g) → (d e : ℕ) → d < e → e < edge_count g → IsBefore g d e
+pub IsBefore-chain : (g : Graph) → HoldsBelow (edge_count g) (KeepsOrder g) → (d e : ℕ) → d < e → e < edge_count g →
+    IsBefore g d e
 IsBefore-chain g step d zero lt within = absurd (omega arith)
 IsBefore-chain g step d (suc e) lt within =
     let last : IsBefore g e (suc e) = step (suc e) within e (omega arith) in
@@ -38,7 +40,8 @@ IsBefore-chain g step d (suc e) lt within =
     ]
 
 -- the rules make a graph
-pub IsGraph-rules : (g : Graph) → 0 < vertex_count g → HoldsBelow (vertex_count g) (KeepsLength g) → HoldsBelow (edge_count g) (HasEnds g)
+pub IsGraph-rules : (g : Graph) → 0 < vertex_count g → HoldsBelow (vertex_count g) (KeepsLength g) →
+    HoldsBelow (edge_count g) (HasEnds g)
     → HoldsBelow (edge_count g) (KeepsOrder g) → HoldsBelow (edge_count g) (HasLabel g) → IsGraph g
 IsGraph-rules g some lengths ends order labels = record {
   has_vertex = some;
@@ -92,13 +95,17 @@ pub IsAbove-irreflexive : (g : Graph) → IsGraph g → (x : ℕ) → IsAbove g 
 IsAbove-irreflexive g is x above = let rises = (IsAbove-higher g is x x above).number in omega arith
 
 -- the converse of what an edge shows
-pub IsAbove-from_edge : (g : Graph) (y x e : ℕ) → e < edge_count g → lower g e ≡ x → (upper g e ≡ y) ⊎ IsAbove g y (upper g e) → IsAbove g y x
+pub IsAbove-from_edge : (g : Graph) (y x e : ℕ) → e < edge_count g → lower g e ≡ x →
+    (upper g e ≡ y) ⊎ IsAbove g y (upper g e) → IsAbove g y x
 IsAbove-from_edge g y x e within starts reach =
-    subst (λ z. IsAbove g y z) starts (elim reach [ inl ends ↦ edge e within ends | inr above ↦ further e within above ])
+    subst (λ z. IsAbove g y z) starts
+    (elim reach [ inl ends ↦ edge e within ends | inr above ↦ further e within above ])
 
-pub IsAbove-by_edges : (g : Graph) (y x : ℕ) → IsAbove g y x ↔ ((e : ℕ) × (e < edge_count g) × (lower g e ≡ x) × ((upper g e ≡ y) ⊎ IsAbove g y (upper g e)))
+pub IsAbove-by_edges : (g : Graph) (y x : ℕ) → IsAbove g y x ↔
+    ((e : ℕ) × (e < edge_count g) × (lower g e ≡ x) × ((upper g e ≡ y) ⊎ IsAbove g y (upper g e)))
 IsAbove-by_edges g y x = (IsAbove-by_edge g y x, λ r. IsAbove-from_edge g y x r.0 r.1 r.2 r.3)
 
 -- a number of the edge that stands at a place
-pub edge_number : (number : Edge → ℕ) (edges : List Edge) (e : ℕ) (d : Edge) → e < length edges → d ≡ get_or edges e d → number d ≡ get_or (map number edges) e 0
+pub edge_number : (number : Edge → ℕ) (edges : List Edge) (e : ℕ) (d : Edge) → e < length edges → d ≡ get_or edges e d →
+    number d ≡ get_or (map number edges) e 0
 edge_number number edges e d within read = ap number read ∙ sym (get_or-map number edges e d 0 within)

@@ -39,7 +39,8 @@ BreaksFirst g (EdgeEnds e) = (0 < vertex_count g) × HoldsBelow (vertex_count g)
 BreaksFirst g (EdgeOrder e) = (0 < vertex_count g) × HoldsBelow (vertex_count g) (KeepsLength g)
     × HoldsBelow (edge_count g) (HasEnds g) × IsFirstFailure (edge_count g) (KeepsOrder g) e
 BreaksFirst g (LabelOf e) = (0 < vertex_count g) × HoldsBelow (vertex_count g) (KeepsLength g)
-    × HoldsBelow (edge_count g) (HasEnds g) × HoldsBelow (edge_count g) (KeepsOrder g) × IsFirstFailure (edge_count g) (HasLabel g) e
+    × HoldsBelow (edge_count g) (HasEnds g) × HoldsBelow (edge_count g) (KeepsOrder g) ×
+    IsFirstFailure (edge_count g) (HasLabel g) e
 BreaksFirst g Memory = IsGraph g
 
 -- d and e, d less than e, have the end x and are parallel

@@ -51,7 +51,8 @@ label_prime g e = slice_index (map (λ (d : Edge). prime_of d.label) g.edges) e
 
 -- both ends are vertices, and the lower one is shorter
 abbrev pub HasEnds : Graph → ℕ → Type 0
-HasEnds g e = (lower g e < vertex_count g) × (upper g e < vertex_count g) × (length_at g (lower g e) < length_at g (upper g e))
+HasEnds g e = (lower g e < vertex_count g) × (upper g e < vertex_count g) ×
+    (length_at g (lower g e) < length_at g (upper g e))
 
 -- the label has the rank and the prime of the graph
 abbrev pub HasLabel : Graph → ℕ → Type 0
@@ -76,7 +77,8 @@ pub record IsUpRange (g : Graph) (x from to : ℕ) : Type 0 where
   pub inside : (e : ℕ) → from ≤ e → e < to → lower g e ≡ x
   pub after : (e : ℕ) → to ≤ e → e < edge_count g → x < lower g e
 
--- a chain of one or more edges leads up to y: an edge with the upper end y, or an edge to a vertex from which such a chain leads on
+-- a chain of one or more edges leads up to y: an edge with the upper end y, or an edge to a vertex from which such a
+-- chain leads on
 pub data IsAbove (g : Graph) (y : ℕ) : ℕ → Type 0 where
   edge : (e : ℕ) → e < edge_count g → upper g e ≡ y → IsAbove g y (lower g e)
   further : (e : ℕ) → e < edge_count g → IsAbove g y (upper g e) → IsAbove g y (lower g e)

@@ -19,25 +19,34 @@ unfolding entry_sum
 entry_sum_none p v g = sym (zero-mod p)
 
 -- one entry more, as a field adds its product
-pub entry_sum_more : (p : ℕ) (v : List Entry) (i : ℕ) (d : Entry) (g : ℕ → ℕ) (sum factor number product total : ℕ) → i < length v → sum ≡ entry_sum (take i v) g % p → factor ≡ (get_or v i d).value → number ≡ g (get_or v i d).place → product ≡ (factor * number) % p → total ≡ (sum + product) % p → total ≡ entry_sum (take (i + 1) v) g % p
+pub entry_sum_more : (p : ℕ) (v : List Entry) (i : ℕ) (d : Entry) (g : ℕ → ℕ) (sum factor number product total : ℕ) →
+    i < length v → sum ≡ entry_sum (take i v) g % p → factor ≡ (get_or v i d).value → number ≡ g (get_or v i d).place →
+    product ≡ (factor * number) % p → total ≡ (sum + product) % p → total ≡ entry_sum (take (i + 1) v) g % p
 unfolding entry_sum
 entry_sum_more p v i d g sum factor number product total l es ef en ep et =
-    reduced_add p sum product (sum_by (λ e. e.value * g e.place) (take i v)) ((get_or v i d).value * g (get_or v i d).place) total (sum_by (λ e. e.value * g e.place) (take (i + 1) v))
+    reduced_add p sum product (sum_by (λ e. e.value * g e.place) (take i v))
+    ((get_or v i d).value * g (get_or v i d).place) total (sum_by (λ e. e.value * g e.place) (take (i + 1) v))
     es (ep ∙ ap₂ (λ x y. (x * y) % p) ef en) et (sum_by_more (λ (e : Entry). e.value * g e.place) v i d l)
 
-pub entry_sum_whole : (p : ℕ) (v : List Entry) (i : ℕ) (g : ℕ → ℕ) (sum : ℕ) → length v ≤ i → sum ≡ entry_sum (take i v) g % p → sum ≡ sum_by (λ e. e.value * g e.place) v % p
+pub entry_sum_whole : (p : ℕ) (v : List Entry) (i : ℕ) (g : ℕ → ℕ) (sum : ℕ) → length v ≤ i →
+    sum ≡ entry_sum (take i v) g % p → sum ≡ sum_by (λ e. e.value * g e.place) v % p
 unfolding entry_sum
 entry_sum_whole p v i g sum l e = e ∙ ap (λ w. sum_by (λ e. e.value * g e.place) w % p) (take_all i v l)
 
 -- all entries
-pub entry_sum_all : (p : ℕ) (v : List Entry) (i n : ℕ) (g : ℕ → ℕ) (sum : ℕ) → length v ≤ i → IsRising v → FitsBelow v n → sum ≡ entry_sum (take i v) g % p → sum ≡ sum_below (λ k. number_at v k * g k) n % p
+pub entry_sum_all : (p : ℕ) (v : List Entry) (i n : ℕ) (g : ℕ → ℕ) (sum : ℕ) → length v ≤ i → IsRising v →
+    FitsBelow v n → sum ≡ entry_sum (take i v) g % p → sum ≡ sum_below (λ k. number_at v k * g k) n % p
 unfolding entry_sum
-entry_sum_all p v i n g sum l r h e = e ∙ ap (λ w. sum_by (λ e. e.value * g e.place) w % p) (take_all i v l) ∙ ap (λ m. m % p) (sum_by-number_at v n g r h)
+entry_sum_all p v i n g sum l r h e = e ∙ ap (λ w. sum_by (λ e. e.value * g e.place) w % p) (take_all i v l)
+    ∙ ap (λ m. m % p) (sum_by-number_at v n g r h)
 
 -- one entry more, where the product is added before the sum is reduced
-pub entry_sum_step : (p : ℕ) (v : List Entry) (i : ℕ) (d : Entry) (g : ℕ → ℕ) (sum factor number total : ℕ) → i < length v → sum ≡ entry_sum (take i v) g % p → factor ≡ (get_or v i d).value → number ≡ g (get_or v i d).place → total ≡ (sum + factor * number) % p → total ≡ entry_sum (take (i + 1) v) g % p
+pub entry_sum_step : (p : ℕ) (v : List Entry) (i : ℕ) (d : Entry) (g : ℕ → ℕ) (sum factor number total : ℕ) →
+    i < length v → sum ≡ entry_sum (take i v) g % p → factor ≡ (get_or v i d).value → number ≡ g (get_or v i d).place →
+    total ≡ (sum + factor * number) % p → total ≡ entry_sum (take (i + 1) v) g % p
 entry_sum_step p v i d g sum factor number total l es ef en et =
-    entry_sum_more p v i d g sum factor number ((factor * number) % p) total l es ef en refl (et ∙ sym (add-mod-mod sum (factor * number) p))
+    entry_sum_more p v i d g sum factor number ((factor * number) % p) total l es ef en refl
+    (et ∙ sym (add-mod-mod sum (factor * number) p))
 
 -- the factors of each product may change places
 pub products_turned : (u v : ℕ → ℕ) (n : ℕ) → sum_below (λ j. u j * v j) n ≡ sum_below (λ j. v j * u j) n

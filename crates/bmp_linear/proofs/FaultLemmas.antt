@@ -22,7 +22,9 @@ abbrev pub PassBefore : ℕ → (RowFault → Type 0) → Type 0
 PassBefore n Compares = (r : RowFault) → Compares r → r.index < n → r.left ≡ r.right
 
 -- one place more, where each comparison there has these sides
-pub pass_below_more : (Compares : RowFault → Type 0) (n m left right : ℕ) → m ≡ n + 1 → ((r : RowFault) → Compares r → r.place ≡ n → (r.left ≡ left) × (r.right ≡ right)) → left ≡ right → PassBelow n Compares → PassBelow m Compares
+pub pass_below_more : (Compares : RowFault → Type 0) (n m left right : ℕ) → m ≡ n + 1 →
+    ((r : RowFault) → Compares r → r.place ≡ n → (r.left ≡ left) × (r.right ≡ right)) → left ≡ right →
+    PassBelow n Compares → PassBelow m Compares
 pass_below_more Compares n m left right next sides same below r compared within =
     elim (cases_eq r.place n) [
       | inl here ↦ let s = sides r compared here in s.0 ∙ same ∙ sym s.1
@@ -30,7 +32,9 @@ pass_below_more Compares n m left right next sides same below r compared within 
     ]
 
 -- a comparison that fails after those below its place passed
-pub first_failure_at : (Compares : RowFault → Type 0) (index : ℕ) (fault : RowFault) → fault.index ≡ index → Compares fault → fault.left ≢ fault.right → PassBelow fault.place (WithIndex index Compares) → IsFirstFailure (WithIndex index Compares) fault
+pub first_failure_at : (Compares : RowFault → Type 0) (index : ℕ) (fault : RowFault) → fault.index ≡ index →
+    Compares fault → fault.left ≢ fault.right → PassBelow fault.place (WithIndex index Compares) →
+    IsFirstFailure (WithIndex index Compares) fault
 first_failure_at Compares index fault at compared differs below = record {
   compared = (at, compared);
   differs = differs;

@@ -30,7 +30,8 @@ module _ (p : ℕ) (a : Matrix) (e : KernelEvidence) (pass : AllPass (KernelComp
   pub basis_in_kernel : (t : ℕ) → t < length e.basis → IsInKernel p a (vector_at e.basis t)
   basis_in_kernel t l i m =
       same_from_remainder p (image a (vector_at e.basis t) i) 0
-      (pass (record { index = t; place = length e.basis + i; left = image a (vector_at e.basis t) i % p; right = 0 }) (inr (inl (record { basis = l; row = (i, m, refl, refl); right_is = refl }))))
+      (pass (record { index = t; place = length e.basis + i; left = image a (vector_at e.basis t) i % p; right = 0 })
+      (inr (inl (record { basis = l; row = (i, m, refl, refl); right_is = refl }))))
 
   frees_counted : EvidenceFits e a.rows a.cols → length (free_places e.pivots a.cols) ≡ length e.basis
   frees_counted fits =
@@ -39,28 +40,45 @@ module _ (p : ℕ) (a : Matrix) (e : KernelEvidence) (pass : AllPass (KernelComp
       let counted : length e.pivots + length e.basis ≡ a.cols = fits.in_all in
       omega arith
 
-  passed_from : EvidenceFits e a.rows a.cols → Passed p a (length e.pivots) (length e.basis) (λ s. get_or e.pivots s 0) (λ t. get_or (free_places e.pivots a.cols) t 0) (vector_at e.basis) (vector_at e.rows)
+  passed_from : EvidenceFits e a.rows a.cols → Passed p a (length e.pivots) (length e.basis) (λ s. get_or e.pivots s 0)
+      (λ t. get_or (free_places e.pivots a.cols) t 0) (vector_at e.basis) (vector_at e.rows)
   passed_from fits = record {
     pivot_below = λ s l. fits.pivots_below s 0 l;
     free_below = λ t l. free_place_below e.pivots a.cols t (rw (frees_counted fits) l);
     each_place = λ j l. elim (cases_Bool (has_place e.pivots j)) [
       | inl pivot ↦ inl (place_found e.pivots j pivot)
       | inr free ↦
-          let within : length (free_places e.pivots j) < length (free_places e.pivots a.cols) = free_within e.pivots a.cols j free l in
+          let within : length (free_places e.pivots j) < length (free_places e.pivots a.cols) =
+          free_within e.pivots a.cols j free l in
           inr (length (free_places e.pivots j), rw (← frees_counted fits) within, free_at e.pivots a.cols j free l)
     ];
-    basis_free = λ t u l m. ap (λ x. x % p) (pass (record { index = t; place = u; left = vector_at e.basis t (get_or (free_places e.pivots a.cols) u 0); right = unit u t }) (inl (record { basis = l; free = m; left_is = refl; right_is = refl })));
+    basis_free = λ t u l m. ap (λ x. x % p)
+        (pass (record {
+          index = t;
+          place = u;
+          left = vector_at e.basis t (get_or (free_places e.pivots a.cols) u 0);
+          right = unit u t;
+        }) (inl (record { basis = l; free = m; left_is = refl; right_is = refl })));
     basis_kernel = basis_in_kernel;
     row_pivot = λ s u l m.
         same_from_remainder p (combination (vector_at e.rows s) a.entry a.rows (get_or e.pivots u 0)) (unit u s)
-        (pass (record { index = length e.basis + s; place = get_or e.pivots u 0; left = combination (vector_at e.rows s) a.entry a.rows (get_or e.pivots u 0) % p; right = unit u s }) (inr (inr (record { at_pivot = (s, u, rw fits.row_for_each l, m, refl, refl, refl, refl) }))));
+        (pass (record {
+          index = length e.basis + s;
+          place = get_or e.pivots u 0;
+          left = combination (vector_at e.rows s) a.entry a.rows (get_or e.pivots u 0) % p;
+          right = unit u s;
+        })
+        (inr (inr (record { at_pivot = (s, u, rw fits.row_for_each l, m, refl, refl, refl, refl) }))));
   }
 
 pub kernel_independent : (p : ℕ) (a : Matrix) (e : KernelEvidence) → EvidenceFits e a.rows a.cols →
     AllPass (KernelCompares p a e) → IsIndependent p a.cols (vector_at e.basis) (length e.basis)
 kernel_independent p a e fits pass = independent (passed_from p a e pass fits)
 
-pub kernel_spans : (p : ℕ) (a : Matrix) (e : KernelEvidence) → 2 ≤ p → EvidenceFits e a.rows a.cols → AllPass (KernelCompares p a e) → (v : ℕ → ℕ) → IsInKernel p a v → IsSpanned p a.cols e v
+pub kernel_spans : (p : ℕ) (a : Matrix) (e : KernelEvidence) → 2 ≤ p → EvidenceFits e a.rows a.cols →
+    AllPass (KernelCompares p a e) → (v : ℕ → ℕ) → IsInKernel p a v → IsSpanned p a.cols e v
 kernel_spans zero a e two fits pass v zeros = absurd (omega arith)
 kernel_spans (suc q) a e two fits pass v zeros =
-    spans q a (length e.pivots) (length e.basis) (λ s. get_or e.pivots s 0) (λ t. get_or (free_places e.pivots a.cols) t 0) (vector_at e.basis) (vector_at e.rows) (passed_from (suc q) a e pass fits) v zeros
+    spans q a (length e.pivots) (length e.basis) (λ s. get_or e.pivots s 0)
+    (λ t. get_or (free_places e.pivots a.cols) t 0) (vector_at e.basis) (vector_at e.rows)
+    (passed_from (suc q) a e pass fits) v zeros

@@ -28,7 +28,8 @@ pub numbers_below-pushed : (p : ℕ) (old new : Matrix) (v : List Entry) → 0 <
 numbers_below-pushed p old new v some numbers values pushed =
     numbers_below-row_pushed p old new (number_at v) numbers (λ j l. number_at-below v p j some values) pushed
 
-pub numbers_below-added : (p : ℕ) (old new : Matrix) (into from c : ℕ) → 0 < p → NumbersBelow p old → IsRowAdded p old new into from c → NumbersBelow p new
+pub numbers_below-added : (p : ℕ) (old new : Matrix) (into from c : ℕ) → 0 < p → NumbersBelow p old →
+    IsRowAdded p old new into from c → NumbersBelow p new
 numbers_below-added p old new into from c some numbers added i j l m =
     let row : i < old.rows = omega (arith, added.rows) in
     let column : j < old.cols = omega (arith, added.cols) in
@@ -37,7 +38,8 @@ numbers_below-added p old new into from c some numbers added i j l m =
       | inr other ↦ rw (added.others i j row column other) (numbers i j row column)
     ]
 
-pub numbers_below-multiplied : (p : ℕ) (old new : Matrix) (r c : ℕ) → 0 < p → NumbersBelow p old → IsRowMultiplied p old new r c → NumbersBelow p new
+pub numbers_below-multiplied : (p : ℕ) (old new : Matrix) (r c : ℕ) → 0 < p → NumbersBelow p old →
+    IsRowMultiplied p old new r c → NumbersBelow p new
 numbers_below-multiplied p old new r c some numbers multiplied i j l m =
     let row : i < old.rows = omega (arith, multiplied.rows) in
     let column : j < old.cols = omega (arith, multiplied.cols) in
@@ -46,7 +48,8 @@ numbers_below-multiplied p old new r c some numbers multiplied i j l m =
       | inr other ↦ rw (multiplied.others i j row column other) (numbers i j row column)
     ]
 
-pub numbers_below-exchanged : (p : ℕ) (old new : Matrix) (r s : ℕ) → r < old.rows → s < old.rows → NumbersBelow p old → AreRowsExchanged old new r s → NumbersBelow p new
+pub numbers_below-exchanged : (p : ℕ) (old new : Matrix) (r s : ℕ) → r < old.rows → s < old.rows → NumbersBelow p old →
+    AreRowsExchanged old new r s → NumbersBelow p new
 numbers_below-exchanged p old new r s first second numbers exchanged i j l m =
     let row : i < old.rows = omega (arith, exchanged.rows) in
     let column : j < old.cols = omega (arith, exchanged.cols) in

@@ -19,7 +19,9 @@ pub record IsRowWritten (v : List Entry) (start cols : ℕ) (old new : List ℕ)
   pub kept : (m : ℕ) → m < start → get_or new m 0 ≡ get_or old m 0
 
 -- one entry more
-pub row_written_more : (v : List Entry) (start cols : ℕ) (old new : List ℕ) (i : ℕ) (d : Entry) → IsRising v → i < length v → (get_or v i d).place < cols → IsRowWritten (take i v) start cols old new → IsRowWritten (take (i + 1) v) start cols old (set new (start + (get_or v i d).place) (get_or v i d).value)
+pub row_written_more : (v : List Entry) (start cols : ℕ) (old new : List ℕ) (i : ℕ) (d : Entry) → IsRising v →
+    i < length v → (get_or v i d).place < cols → IsRowWritten (take i v) start cols old new →
+    IsRowWritten (take (i + 1) v) start cols old (set new (start + (get_or v i d).place) (get_or v i d).value)
 row_written_more v start cols old new i d rising l below so_far =
     let at : ℕ = start + (get_or v i d).place in
     let n : ℕ = (get_or v i d).value in
@@ -31,14 +33,17 @@ row_written_more v start cols old new i d rising l below so_far =
             let inside : start + (get_or v i d).place < length new = omega arith in
             ap (λ m. get_or (set new (start + (get_or v i d).place) (get_or v i d).value) (start + m) 0) (sym same)
             ∙ get_or-set_same new (start + (get_or v i d).place) (get_or v i d).value 0 inside
-            ∙ sym (number_at_more v i j d rising l ∙ cond-true (eqb (get_or v i d).place j) (get_or v i d).value (number_at (take i v) j) (eq-eqb (get_or v i d).place j same))
+            ∙ sym (number_at_more v i j d rising l ∙ cond-true (eqb (get_or v i d).place j) (get_or v i d).value
+            (number_at (take i v) j) (eq-eqb (get_or v i d).place j same))
         | inr other ↦
             let apart : start + j ≢ start + (get_or v i d).place = λ e. other (omega arith) in
             get_or-set_other new (start + (get_or v i d).place) (start + j) (get_or v i d).value 0 apart
             ∙ so_far.written j within
-            ∙ sym (number_at_more v i j d rising l ∙ cond-false (eqb (get_or v i d).place j) (get_or v i d).value (number_at (take i v) j) (ne_eqb (get_or v i d).place j other))
+            ∙ sym (number_at_more v i j d rising l ∙ cond-false (eqb (get_or v i d).place j) (get_or v i d).value
+            (number_at (take i v) j) (ne_eqb (get_or v i d).place j other))
       ];
-      kept = λ m before. let apart : m ≢ start + (get_or v i d).place = omega arith in get_or-set_other new (start + (get_or v i d).place) m (get_or v i d).value 0 apart ∙ so_far.kept m before;
+      kept = λ m before. let apart : m ≢ start + (get_or v i d).place = omega arith in
+          get_or-set_other new (start + (get_or v i d).place) m (get_or v i d).value 0 apart ∙ so_far.kept m before;
     }
 
 -- all entries
@@ -49,19 +54,26 @@ row_written_all v u i start cols old new past same at h =
     (subst (λ (w : List Entry). IsRowWritten w start cols old new) (take_all i v past ∙ same) h)
 
 -- zeros behind the old rows
-pub row_written_none : (start cols n : ℕ) (old new : List ℕ) → start ≡ length old → n ≡ start + cols → new ≡ take n old ++ replicate (n - start) 0 → IsRowWritten [] start cols old new
+pub row_written_none : (start cols n : ℕ) (old new : List ℕ) → start ≡ length old → n ≡ start + cols →
+    new ≡ take n old ++ replicate (n - start) 0 → IsRowWritten [] start cols old new
 row_written_none start cols n old new is_start is_n is_new =
     let all : take n old ≡ old = take_all n old (omega arith) in
     let more : n - start ≡ cols = omega arith in
-    let whole : new ≡ old ++ replicate cols 0 = is_new ∙ ap (λ xs. xs ++ replicate (n - start) 0) all ∙ ap (λ m. old ++ replicate m 0) more in
+    let whole : new ≡ old ++ replicate cols 0 = is_new ∙ ap (λ xs. xs ++ replicate (n - start) 0) all
+    ∙ ap (λ m. old ++ replicate m 0) more in
     record {
-      length_is = ap length whole ∙ length-append old (replicate cols 0) ∙ (let count : length (replicate {A = ℕ} cols 0) ≡ cols = length-replicate {A = ℕ} cols 0 in omega arith);
+      length_is = ap length whole ∙ length-append old (replicate cols 0)
+          ∙ (let count : length (replicate {A = ℕ} cols 0) ≡ cols = length-replicate {A = ℕ} cols 0 in omega arith);
       written = λ j l. ap (λ xs. get_or xs (start + j) 0) whole ∙ grind (arith, common_steps);
       kept = λ m l. ap (λ xs. get_or xs m 0) whole ∙ grind (arith, common_steps);
     }
 
 -- the row that was written is the new last row
-pub row_pushed : (t : NumberTable) (rows cols : ℕ) (new : List ℕ) (v : List Entry) → length t.numbers ≡ t.rows * t.cols → rows ≡ t.rows + 1 → cols ≡ t.cols → IsRowWritten v (length t.numbers) t.cols t.numbers new → IsRowPushed (matrix_of_numbers t) (matrix_of_numbers (record { rows = rows; cols = cols; numbers = new })) (number_at v)
+pub row_pushed : (t : NumberTable) (rows cols : ℕ) (new : List ℕ) (v : List Entry) →
+    length t.numbers ≡ t.rows * t.cols → rows ≡ t.rows + 1 → cols ≡ t.cols →
+    IsRowWritten v (length t.numbers) t.cols t.numbers new →
+    IsRowPushed (matrix_of_numbers t) (matrix_of_numbers (record { rows = rows; cols = cols; numbers = new }))
+    (number_at v)
 row_pushed t rows cols new v full is_rows is_cols row = record {
   rows = is_rows;
   cols = is_cols;
@@ -69,7 +81,8 @@ row_pushed t rows cols new v full is_rows is_cols row = record {
       let at : t.rows * cols + j ≡ length t.numbers + j = rw is_cols (omega (arith, full)) in
       ap (λ m. get_or new m 0) at ∙ row.written j l;
   others = λ i j k l.
-      let before : i * t.cols + j < length t.numbers = let inside : i * t.cols + j < t.cols * t.rows = mul-add-lt i t.cols j t.rows k l in omega (arith, full, inside) in
+      let before : i * t.cols + j < length t.numbers = let inside : i * t.cols + j < t.cols * t.rows =
+      mul-add-lt i t.cols j t.rows k l in omega (arith, full, inside) in
       ap (λ w. get_or new (i * w + j) 0) is_cols ∙ row.kept (i * t.cols + j) before;
 }
 
@@ -131,14 +144,18 @@ row_pushed_as old new row other same h = record {
 }
 
 -- a row of the table is a row in memory
-pub row_within : (t : EntryTable) (cols : ℕ) (rows : List (SmallVec Entry)) (i : ℕ) → record { cols = cols; rows = map entries_of rows } ≡ t → i < length t.rows → i < length rows
+pub row_within : (t : EntryTable) (cols : ℕ) (rows : List (SmallVec Entry)) (i : ℕ) →
+    record { cols = cols; rows = map entries_of rows } ≡ t → i < length t.rows → i < length rows
 row_within t cols rows i seen below =
     let same : length t.rows ≡ length rows = ap (λ u. length u.rows) (sym seen) ∙ length-map rows entries_of in
     omega arith
 
 -- what stands among the entries of a row
-pub entry_is : (t : EntryTable) (cols : ℕ) (rows : List (SmallVec Entry)) (i : ℕ) (row : SmallVec Entry) (j number : ℕ) → record { cols = cols; rows = map entries_of rows } ≡ t → i < length t.rows → row ≡ get_or rows i row → number ≡ number_at row.items j → number ≡ (matrix_of_entries t).entry i j
+pub entry_is : (t : EntryTable) (cols : ℕ) (rows : List (SmallVec Entry)) (i : ℕ) (row : SmallVec Entry) (j number : ℕ)
+    → record { cols = cols; rows = map entries_of rows } ≡ t → i < length t.rows → row ≡ get_or rows i row →
+    number ≡ number_at row.items j → number ≡ (matrix_of_entries t).entry i j
 entry_is t cols rows i row j number seen below is_row is_number =
     let within : i < length rows = row_within t cols rows i seen below in
-    let entries : get_or (map entries_of rows) i [] ≡ row.items = get_or-map entries_of rows i row [] within ∙ ap entries_of (sym is_row) in
+    let entries : get_or (map entries_of rows) i [] ≡ row.items = get_or-map entries_of rows i row [] within
+    ∙ ap entries_of (sym is_row) in
     is_number ∙ ap (λ es. number_at es j) (sym entries) ∙ ap (λ (u : EntryTable). (matrix_of_entries u).entry i j) seen

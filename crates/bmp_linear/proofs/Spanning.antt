@@ -14,10 +14,12 @@ use Rattle.bmp_math.proofs.MatrixLemmas.{image-plus, image-scaled, image-combina
 pub record Passed (p : ℕ) (a : Matrix) (pivots frees : ℕ) (pivot free : ℕ → ℕ) (basis rows : ℕ → ℕ → ℕ) : Type 0 where
   pub pivot_below : (s : ℕ) → s < pivots → pivot s < a.cols
   pub free_below : (t : ℕ) → t < frees → free t < a.cols
-  pub each_place : (j : ℕ) → j < a.cols → ((s : ℕ) × (s < pivots) × (pivot s ≡ j)) ⊎ ((t : ℕ) × (t < frees) × (free t ≡ j))
+  pub each_place : (j : ℕ) → j < a.cols → ((s : ℕ) × (s < pivots) × (pivot s ≡ j)) ⊎
+      ((t : ℕ) × (t < frees) × (free t ≡ j))
   pub basis_free : (t u : ℕ) → t < frees → u < frees → SameMod p (basis t (free u)) (unit u t)
   pub basis_kernel : (t : ℕ) → t < frees → IsInKernel p a (basis t)
-  pub row_pivot : (s u : ℕ) → s < pivots → u < pivots → SameMod p (combination (rows s) a.entry a.rows (pivot u)) (unit u s)
+  pub row_pivot : (s u : ℕ) → s < pivots → u < pivots →
+      SameMod p (combination (rows s) a.entry a.rows (pivot u)) (unit u s)
 
 module _
     {p : ℕ} {a : Matrix} {pivots frees : ℕ} {pivot free : ℕ → ℕ} {basis rows : ℕ → ℕ → ℕ}
@@ -34,7 +36,8 @@ module _
   pub independent : IsIndependent p a.cols basis frees
   independent c zero t l = sym (combination_at_free c t l) ∙ zero (free t) (e.free_below t l)
 
-module _ (q : ℕ) (a : Matrix) (pivots frees : ℕ) (pivot free : ℕ → ℕ) (basis rows : ℕ → ℕ → ℕ) (e : Passed (suc q) a pivots frees pivot free basis rows) (v : ℕ → ℕ) (kernel : IsInKernel (suc q) a v) where
+module _ (q : ℕ) (a : Matrix) (pivots frees : ℕ) (pivot free : ℕ → ℕ) (basis rows : ℕ → ℕ → ℕ)
+    (e : Passed (suc q) a pivots frees pivot free basis rows) (v : ℕ → ℕ) (kernel : IsInKernel (suc q) a v) where
   -- the combination that v is to be
   spanned : ℕ → ℕ
   spanned = combination (λ t. v (free t)) basis frees
@@ -57,11 +60,14 @@ module _ (q : ℕ) (a : Matrix) (pivots frees : ℕ) (pivot free : ℕ → ℕ) 
       let values : ℕ → ℕ = λ t. v (free t) * image a (basis t) i in
       let parts : image a rest i ≡ image a v i + q * sum_below values frees =
       image-plus a v (scaled q spanned) i
-      ∙ ap (λ z. image a v i + z) (image-scaled a q spanned i ∙ ap (λ z. q * z) (image-combination a frees (λ t. v (free t)) basis i)) in
+      ∙ ap (λ z. image a v i + z)
+      (image-scaled a q spanned i ∙ ap (λ z. q * z) (image-combination a frees (λ t. v (free t)) basis i)) in
       let zeros : SameMod (suc q) (sum_below values frees) 0 =
-      sum_zero_mod (suc q) values frees (λ t k. mul_zero (suc q) (v (free t)) (image a (basis t) i) (e.basis_kernel t k i l)) in
+      sum_zero_mod (suc q) values frees
+      (λ t k. mul_zero (suc q) (v (free t)) (image a (basis t) i) (e.basis_kernel t k i l)) in
       let joined : SameMod (suc q) (image a v i + q * sum_below values frees) (0 + 0) =
-      same_add (suc q) (image a v i) 0 (q * sum_below values frees) 0 (kernel i l) (mul_zero (suc q) q (sum_below values frees) zeros) in
+      same_add (suc q) (image a v i) 0 (q * sum_below values frees) 0 (kernel i l)
+      (mul_zero (suc q) q (sum_below values frees) zeros) in
       ap (λ z. z % suc q) parts ∙ joined
 
   rest_pivot : (s : ℕ) → s < pivots → SameMod (suc q) (rest (pivot s)) 0
@@ -69,14 +75,16 @@ module _ (q : ℕ) (a : Matrix) (pivots frees : ℕ) (pivot free : ℕ → ℕ) 
       let row : ℕ → ℕ = combination (rows s) a.entry a.rows in
       let total : SameMod (suc q) (sum_below (λ j. row j * rest j) a.cols) 0 =
       ap (λ z. z % suc q) (dot-combination a (rows s) rest)
-      ∙ sum_zero_mod (suc q) (λ i. rows s i * image a rest i) a.rows (λ i k. mul_zero (suc q) (rows s i) (image a rest i) (rest_kernel i k)) in
+      ∙ sum_zero_mod (suc q) (λ i. rows s i * image a rest i) a.rows
+      (λ i k. mul_zero (suc q) (rows s i) (image a rest i) (rest_kernel i k)) in
       let only : SameMod (suc q) (sum_below (λ j. row j * rest j) a.cols) (row (pivot s) * rest (pivot s)) =
       sum_only_mod (suc q) (λ j. row j * rest j) a.cols (pivot s) (e.pivot_below s l)
       (λ j k other. elim (e.each_place j k) [
         | inl at_pivot ↦
             let away : s ≢ at_pivot.0 = λ same. other (sym at_pivot.2 ∙ ap pivot (sym same)) in
             zero_mul (suc q) (row j) (rest j)
-            (ap (λ z. row z % suc q) (sym at_pivot.2) ∙ e.row_pivot s at_pivot.0 l at_pivot.1 ∙ ap (λ z. z % suc q) (unit_other at_pivot.0 s (λ e. away (sym e))))
+            (ap (λ z. row z % suc q) (sym at_pivot.2) ∙ e.row_pivot s at_pivot.0 l at_pivot.1
+            ∙ ap (λ z. z % suc q) (unit_other at_pivot.0 s (λ e. away (sym e))))
         | inr at_free ↦
             mul_zero (suc q) (row j) (rest j) (ap (λ z. rest z % suc q) (sym at_free.2) ∙ rest_free at_free.0 at_free.1)
       ]) in

@@ -28,7 +28,8 @@ abbrev pub matrix_of_numbers : NumberTable → Matrix
 matrix_of_numbers t = record { rows = t.rows; cols = t.cols; entry = λ i j. slice_index t.numbers (i * t.cols + j) }
 
 abbrev pub matrix_of_entries : EntryTable → Matrix
-matrix_of_entries t = record { rows = length t.rows; cols = t.cols; entry = λ i j. number_at (slice_index_or t.rows i []) j }
+matrix_of_entries t =
+    record { rows = length t.rows; cols = t.cols; entry = λ i j. number_at (slice_index_or t.rows i []) j }
 
 -- the entries that a row keeps
 abbrev pub entries_of : SmallVec Entry → List Entry

@@ -20,7 +20,8 @@ pub record HoldsRun (p start len : ℕ) (list : List ℕ) : Type 0 where
 -- c times the run `from` was added to the run `into`, modulo p
 pub record IsRunAdded (p c into from len : ℕ) (old new : List ℕ) : Type 0 where
   pub length_is : length new ≡ length old
-  pub added : (j : ℕ) → j < len → slice_index new (into + j) ≡ (slice_index old (into + j) + c * slice_index old (from + j)) % p
+  pub added : (j : ℕ) → j < len →
+      slice_index new (into + j) ≡ (slice_index old (into + j) + c * slice_index old (from + j)) % p
   pub others : (k : ℕ) → IsOutside into len k → slice_index new k ≡ slice_index old k
 
 -- the run was multiplied by c, modulo p

@@ -21,14 +21,17 @@ same_cancel zero a b c h =
     let parts : a ≡ b = omega arith in
     ap (λ x. x % 0) parts
 same_cancel (suc q) a b c h =
-    let padded : SameMod (suc q) ((a + c) + q * c) ((b + c) + q * c) = same_add (suc q) (a + c) (b + c) (q * c) (q * c) h refl in
+    let padded : SameMod (suc q) ((a + c) + q * c) ((b + c) + q * c) =
+    same_add (suc q) (a + c) (b + c) (q * c) (q * c) h refl in
     let left : (a + c) + q * c ≡ a + suc q * c = omega arith in
     let right : (b + c) + q * c ≡ b + suc q * c = omega arith in
-    sym (same_past (suc q) a c) ∙ sym (ap (λ x. x % suc q) left) ∙ padded ∙ ap (λ x. x % suc q) right ∙ same_past (suc q) b c
+    sym (same_past (suc q) a c) ∙ sym (ap (λ x. x % suc q) left) ∙ padded ∙ ap (λ x. x % suc q) right
+    ∙ same_past (suc q) b c
 
 -- a sum of remainders, as a field adds them, is the remainder of the sum
 pub reduced_add : (p a b x y r s : ℕ) → a ≡ x % p → b ≡ y % p → r ≡ (a + b) % p → s ≡ x + y → r ≡ s % p
-reduced_add p a b x y r s ea eb er es = er ∙ ap₂ (λ m n. (m + n) % p) ea eb ∙ sym (add-mod x y p) ∙ ap (λ n. n % p) (sym es)
+reduced_add p a b x y r s ea eb er es = er ∙ ap₂ (λ m n. (m + n) % p) ea eb ∙ sym (add-mod x y p)
+    ∙ ap (λ n. n % p) (sym es)
 
 -- minus one, as a factor: adding q * x is taking x away, where p is q + 1
 module _ (q : ℕ) where
@@ -65,4 +68,5 @@ same_below p a b a_below b_below h = sym (mod-eq_of_lt a_below) ∙ h ∙ mod-eq
 
 -- and so are remainders
 pub same_remainders : (p a b x y : ℕ) → a ≡ x % p → b ≡ y % p → SameMod p a b → a ≡ b
-same_remainders p a b x y e f h = e ∙ sym (mod-mod x p) ∙ ap (λ z. z % p) (sym e) ∙ h ∙ ap (λ z. z % p) f ∙ mod-mod y p ∙ sym f
+same_remainders p a b x y e f h = e ∙ sym (mod-mod x p) ∙ ap (λ z. z % p) (sym e) ∙ h ∙ ap (λ z. z % p) f ∙ mod-mod y p
+    ∙ sym f

@@ -9,7 +9,8 @@ use borrow.Author.Differences.{up, down}
 sum_parts : (a b : ℤ) → up (a +ℤ b) + (down a + down b) ≡ up a + up b + down (a +ℤ b)
 sum_parts a b = omega (arith, ints)
 
-product_parts : (a b : ℤ) → up (a *ℤ b) + (up a * down b + down a * up b) ≡ up a * up b + down a * down b + down (a *ℤ b)
+product_parts : (a b : ℤ) → up (a *ℤ b) + (up a * down b + down a * up b) ≡ up a * up b + down a * down b + down
+    (a *ℤ b)
 product_parts a b = omega (arith, ints)
 
 pub mul-add : (a b c : ℤ) → a *ℤ (b +ℤ c) ≡ a *ℤ b +ℤ a *ℤ c
@@ -64,10 +65,14 @@ pub ruleset opened = (mul-add, add-mul, mul-sub, sub-mul)
 -- a product's size is at most the product of the sizes
 pub product_within : (m n : ℕ) (a b : ℤ) → IsWithin m a → IsWithin n b → IsWithin (m * n) (a *ℤ b)
 product_within m n (pos a) (pos b) h k =
-    let x : a ≤ m = omega (arith, ints, h.1) in let y : b ≤ n = omega (arith, ints, k.1) in (omega (arith, ints, mul-le-mul x y), omega (arith, ints, mul-le-mul x y))
+    let x : a ≤ m = omega (arith, ints, h.1) in let y : b ≤ n = omega (arith, ints, k.1) in
+    (omega (arith, ints, mul-le-mul x y), omega (arith, ints, mul-le-mul x y))
 product_within m n (pos a) (negsuc b) h k =
-    let x : a ≤ m = omega (arith, ints, h.1) in let y : suc b ≤ n = omega (arith, ints, k.0) in (omega (arith, ints, mul-le-mul x y), omega (arith, ints, mul-le-mul x y))
+    let x : a ≤ m = omega (arith, ints, h.1) in let y : suc b ≤ n = omega (arith, ints, k.0) in
+    (omega (arith, ints, mul-le-mul x y), omega (arith, ints, mul-le-mul x y))
 product_within m n (negsuc a) (pos b) h k =
-    let x : suc a ≤ m = omega (arith, ints, h.0) in let y : b ≤ n = omega (arith, ints, k.1) in (omega (arith, ints, mul-le-mul x y), omega (arith, ints, mul-le-mul x y))
+    let x : suc a ≤ m = omega (arith, ints, h.0) in let y : b ≤ n = omega (arith, ints, k.1) in
+    (omega (arith, ints, mul-le-mul x y), omega (arith, ints, mul-le-mul x y))
 product_within m n (negsuc a) (negsuc b) h k =
-    let x : suc a ≤ m = omega (arith, ints, h.0) in let y : suc b ≤ n = omega (arith, ints, k.0) in (omega (arith, ints, mul-le-mul x y), omega (arith, ints, mul-le-mul x y))
+    let x : suc a ≤ m = omega (arith, ints, h.0) in let y : suc b ≤ n = omega (arith, ints, k.0) in
+    (omega (arith, ints, mul-le-mul x y), omega (arith, ints, mul-le-mul x y))

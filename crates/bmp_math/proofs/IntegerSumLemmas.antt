@@ -18,10 +18,12 @@ integer_sum_more f n = let e : n + 1 ≡ suc n = omega arith in ap (λ k. intege
 pub integer_sum_same : (f g : ℕ → ℤ) (n : ℕ) → ((i : ℕ) → i < n → f i ≡ g i) → integer_sum f n ≡ integer_sum g n
 unfolding integer_sum
 integer_sum_same f g zero h = refl
-integer_sum_same f g (suc n) h = ap₂ (λ x y. x +ℤ y) (integer_sum_same f g n (λ i l. h i (omega arith))) (h n (omega arith))
+integer_sum_same f g (suc n) h =
+    ap₂ (λ x y. x +ℤ y) (integer_sum_same f g n (λ i l. h i (omega arith))) (h n (omega arith))
 
 -- f less t times g
-pub integer_sum-minus : (f g : ℕ → ℤ) (t : ℤ) (n : ℕ) → integer_sum (λ i. f i -ℤ t *ℤ g i) n ≡ integer_sum f n -ℤ t *ℤ integer_sum g n
+pub integer_sum-minus : (f g : ℕ → ℤ) (t : ℤ) (n : ℕ) → integer_sum (λ i. f i -ℤ t *ℤ g i) n
+    ≡ integer_sum f n -ℤ t *ℤ integer_sum g n
 unfolding integer_sum
 integer_sum-minus f g t zero = omega (arith, ints)
 integer_sum-minus f g t (suc n) = omega (arith, ints, integer_sum-minus f g t n, mul-add t (integer_sum g n) (g n))
@@ -63,12 +65,14 @@ unit_off k j h = grind (arith, nat_tests)
 -- a sum of products with a integer_unit vector
 pub sum_unit_left : (k n : ℕ) (f : ℕ → ℤ) → k < n → integer_sum (λ i. integer_unit k i *ℤ f i) n ≡ f k
 sum_unit_left k n f l =
-    integer_sum_only (λ i. integer_unit k i *ℤ f i) n k l (λ i m h. ap (λ x. x *ℤ f i) (unit_off k i h) ∙ zero-mul (f i))
+    integer_sum_only (λ i. integer_unit k i *ℤ f i) n k l (λ i m h. ap (λ x. x *ℤ f i) (unit_off k i h)
+    ∙ zero-mul (f i))
     ∙ ap (λ x. x *ℤ f k) (unit_at k) ∙ one-mul (f k)
 
 pub sum_unit_right : (k n : ℕ) (f : ℕ → ℤ) → k < n → integer_sum (λ i. f i *ℤ integer_unit k i) n ≡ f k
 sum_unit_right k n f l =
-    integer_sum_only (λ i. f i *ℤ integer_unit k i) n k l (λ i m h. ap (λ x. f i *ℤ x) (unit_off k i h) ∙ mul-zero (f i))
+    integer_sum_only (λ i. f i *ℤ integer_unit k i) n k l (λ i m h. ap (λ x. f i *ℤ x) (unit_off k i h)
+    ∙ mul-zero (f i))
     ∙ ap (λ x. f k *ℤ x) (unit_at k) ∙ mul-one (f k)
 
 pub sum_step : (f : ℕ → ℤ) (n : ℕ) (s t r : ℤ) → s ≡ integer_sum f n → t ≡ f n → r ≡ s +ℤ t → r ≡ integer_sum f (n + 1)

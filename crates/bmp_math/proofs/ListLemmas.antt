@@ -11,12 +11,15 @@ module _ {X : Type 0} where
   without x (y ∷ ys) (inl e) = ys
   without x (y ∷ ys) (inr h) = y ∷ without x ys h
 
-  pub count_without : (p : X → Bool) (x : X) (ys : List X) (h : Member x ys) → count_by p ys ≡ cond (p x) 1 0 + count_by p (without x ys h)
+  pub count_without : (p : X → Bool) (x : X) (ys : List X) (h : Member x ys) →
+      count_by p ys ≡ cond (p x) 1 0 + count_by p (without x ys h)
   count_without p x [] h = absurd h
-  count_without p x (y ∷ ys) (inl e) = sum_by-cons (λ z. cond (p z) 1 0) y ys ∙ ap (λ z. cond (p z) 1 0 + count_by p ys) (sym e)
+  count_without p x (y ∷ ys) (inl e) = sum_by-cons (λ z. cond (p z) 1 0) y ys
+      ∙ ap (λ z. cond (p z) 1 0 + count_by p ys) (sym e)
   count_without p x (y ∷ ys) (inr h) =
       let whole : count_by p (y ∷ ys) ≡ cond (p y) 1 0 + count_by p ys = sum_by-cons (λ z. cond (p z) 1 0) y ys in
-      let left : count_by p (y ∷ without x ys h) ≡ cond (p y) 1 0 + count_by p (without x ys h) = sum_by-cons (λ z. cond (p z) 1 0) y (without x ys h) in
+      let left : count_by p (y ∷ without x ys h) ≡ cond (p y) 1 0 + count_by p (without x ys h) =
+      sum_by-cons (λ z. cond (p z) 1 0) y (without x ys h) in
       omega (arith, whole, left, count_without p x ys h)
 
   pub kept_without : (x z : X) (ys : List X) (h : Member x ys) → Member z ys → z ≢ x → Member z (without x ys h)
@@ -27,7 +30,8 @@ module _ {X : Type 0} where
   kept_without x z (y ∷ ys) (inr h) (inr k) apart = inr (kept_without x z ys h k apart)
 
   -- a list with each member once has no more members of a kind than a list that holds them
-  pub count_within : (p : X → Bool) (xs ys : List X) → HasEachOnce xs → ((x : X) → Member x xs → Member x ys) → count_by p xs ≤ count_by p ys
+  pub count_within : (p : X → Bool) (xs ys : List X) → HasEachOnce xs → ((x : X) → Member x xs → Member x ys) →
+      count_by p xs ≤ count_by p ys
   count_within p [] ys once held = omega arith
   count_within p (x ∷ xs) ys once held =
       let here : Member x ys = held x (inl refl) in
@@ -47,7 +51,8 @@ module _ {X : Type 0} where
   member-map : (f : X → X) (z : X) (xs : List X) → Member z (map f xs) → (x : X) × Member x xs × (z ≡ f x)
   member-map f z [] h = absurd h
   member-map f z (x ∷ xs) (inl e) = (x, inl refl, e)
-  member-map f z (x ∷ xs) (inr h) = let r : (w : X) × Member w xs × (z ≡ f w) = member-map f z xs h in (r.0, inr r.1, r.2)
+  member-map f z (x ∷ xs) (inr h) = let r : (w : X) × Member w xs × (z ≡ f w) = member-map f z xs h in
+      (r.0, inr r.1, r.2)
 
   once-map : (f : X → X) → ((x : X) → f (f x) ≡ x) → (xs : List X) → HasEachOnce xs → HasEachOnce (map f xs)
   once-map f twice [] once = tt
@@ -59,17 +64,26 @@ module _ {X : Type 0} where
 
   count-map : (f : X → X) (p : X → Bool) (xs : List X) → count_by p (map f xs) ≡ count_by (λ x. p (f x)) xs
   count-map f p [] = refl
-  count-map f p (x ∷ xs) = omega (arith, sum_by-cons (λ z. cond (p z) 1 0) (f x) (map f xs), sum_by-cons (λ z. cond (p (f z)) 1 0) x xs, count-map f p xs)
+  count-map f p (x ∷ xs) =
+      omega (
+        arith,
+        sum_by-cons (λ z. cond (p z) 1 0) (f x) (map f xs),
+        sum_by-cons (λ z. cond (p (f z)) 1 0) x xs,
+        count-map f p xs,
+      )
 
   -- an involution that keeps a list keeps each count
-  pub count_under : (f : X → X) → ((x : X) → f (f x) ≡ x) → (xs : List X) → HasEachOnce xs → ((x : X) → Member x xs → Member (f x) xs)
+  pub count_under : (f : X → X) → ((x : X) → f (f x) ≡ x) → (xs : List X) → HasEachOnce xs →
+      ((x : X) → Member x xs → Member (f x) xs)
       → (p : X → Bool) → count_by (λ x. p (f x)) xs ≡ count_by p xs
   count_under f twice xs once kept p =
       let held : (z : X) → Member z (map f xs) → Member z xs =
-      λ z h. let r : (w : X) × Member w xs × (z ≡ f w) = member-map f z xs h in subst (λ w. Member w xs) (sym r.2) (kept r.0 r.1) in
+      λ z h. let r : (w : X) × Member w xs × (z ≡ f w) = member-map f z xs h in
+      subst (λ w. Member w xs) (sym r.2) (kept r.0 r.1) in
       let below : (q : X → Bool) → count_by (λ x. q (f x)) xs ≤ count_by q xs =
       λ q. omega (arith, count_within q (map f xs) xs (once-map f twice xs once) held, count-map f q xs) in
-      let back : count_by (λ x. p (f (f x))) xs ≡ count_by p xs = ap (λ (q : X → Bool). count_by q xs) (fun_ext (λ x. ap p (twice x))) in
+      let back : count_by (λ x. p (f (f x))) xs ≡ count_by p xs =
+      ap (λ (q : X → Bool). count_by q xs) (fun_ext (λ x. ap p (twice x))) in
       omega (arith, below p, below (λ x. p (f x)), back)
 
   pub member-left : (x : X) (xs ys : List X) → Member x xs → Member x (xs ++ ys)
@@ -94,7 +108,8 @@ module _ {X : Type 0} where
     once-push xs y once.1 (λ h. fresh (inr h)),
   )
 
-  pub all-member : (P : X → Type 0) (xs : List X) → ((x : X) → Member x xs → P x) → (ys : List X) → ((y : X) → Member y ys → Member y xs) → (y : X) → Member y ys → P y
+  pub all-member : (P : X → Type 0) (xs : List X) → ((x : X) → Member x xs → P x) → (ys : List X) →
+      ((y : X) → Member y ys → Member y xs) → (y : X) → Member y ys → P y
   all-member P xs h ys inside y k = h y (inside y k)
 
   -- by place
@@ -106,7 +121,8 @@ module _ {X : Type 0} where
   pub place_of : (x : X) (xs : List X) → Member x xs → (i : ℕ) × (i < length xs) × ((d : X) → get_or xs i d ≡ x)
   place_of x [] h = absurd h
   place_of x (y ∷ xs) (inl e) = (0, omega arith, λ d. sym e)
-  place_of x (y ∷ xs) (inr h) = let r : (i : ℕ) × (i < length xs) × ((d : X) → get_or xs i d ≡ x) = place_of x xs h in (suc r.0, omega (arith, r.1), r.2)
+  place_of x (y ∷ xs) (inr h) = let r : (i : ℕ) × (i < length xs) × ((d : X) → get_or xs i d ≡ x) = place_of x xs h in
+      (suc r.0, omega (arith, r.1), r.2)
 
   pub inside_without : (x z : X) (ys : List X) (h : Member x ys) → Member z (without x ys h) → Member z ys
   inside_without x z [] h k = absurd h

@@ -38,7 +38,8 @@ sum_below-zeros zero = refl
 sum_below-zeros (suc n) = omega (arith, sum_below-zeros n)
 
 -- the order of two sums is free
-pub sum_below-swap : (f : ℕ → ℕ → ℕ) (m n : ℕ) → sum_below (λ i. sum_below (λ j. f i j) n) m ≡ sum_below (λ j. sum_below (λ i. f i j) m) n
+pub sum_below-swap : (f : ℕ → ℕ → ℕ) (m n : ℕ) → sum_below (λ i. sum_below (λ j. f i j) n) m
+    ≡ sum_below (λ j. sum_below (λ i. f i j) m) n
 unfolding sum_below
 sum_below-swap f zero n = sym (sum_below-zeros n)
 sum_below-swap f (suc m) n =
@@ -62,37 +63,46 @@ sum_below_rises f m (suc n) l =
     ]
 
 module _ (p : ℕ) where
-  pub sum_same_mod : (f g : ℕ → ℕ) (n : ℕ) → ((i : ℕ) → i < n → SameMod p (f i) (g i)) → SameMod p (sum_below f n) (sum_below g n)
+  pub sum_same_mod : (f g : ℕ → ℕ) (n : ℕ) → ((i : ℕ) → i < n → SameMod p (f i) (g i)) →
+      SameMod p (sum_below f n) (sum_below g n)
   unfolding sum_below
   sum_same_mod f g zero h = refl
   sum_same_mod f g (suc n) h =
-      same_add p (sum_below f n) (sum_below g n) (f n) (g n) (sum_same_mod f g n (λ i l. h i (omega arith))) (h n (omega arith))
+      same_add p (sum_below f n) (sum_below g n) (f n) (g n) (sum_same_mod f g n (λ i l. h i (omega arith)))
+      (h n (omega arith))
 
   pub sum_zero_mod : (f : ℕ → ℕ) (n : ℕ) → ((i : ℕ) → i < n → SameMod p (f i) 0) → SameMod p (sum_below f n) 0
   sum_zero_mod f n h = sum_same_mod f (λ i. 0) n h ∙ ap (λ x. x % p) (sum_below-zeros n)
 
   -- what grows from 0 by the terms of a sum is the sum
-  pub sum_of_steps : (value f : ℕ → ℕ) (n : ℕ) → SameMod p (value 0) 0 → ((i : ℕ) → i < n → SameMod p (value (suc i)) (value i + f i)) → SameMod p (value n) (sum_below f n)
+  pub sum_of_steps : (value f : ℕ → ℕ) (n : ℕ) → SameMod p (value 0) 0 →
+      ((i : ℕ) → i < n → SameMod p (value (suc i)) (value i + f i)) → SameMod p (value n) (sum_below f n)
   unfolding sum_below
   sum_of_steps value f zero start step = start
   sum_of_steps value f (suc n) start step =
-      step n (omega arith) ∙ same_add p (value n) (sum_below f n) (f n) (f n) (sum_of_steps value f n start (λ i l. step i (omega arith))) refl
+      step n (omega arith)
+      ∙ same_add p (value n) (sum_below f n) (f n) (f n)
+      (sum_of_steps value f n start (λ i l. step i (omega arith))) refl
 
   -- a sum whose terms are zero but for one
-  pub sum_only_mod : (f : ℕ → ℕ) (n k : ℕ) → k < n → ((i : ℕ) → i < n → i ≢ k → SameMod p (f i) 0) → SameMod p (sum_below f n) (f k)
+  pub sum_only_mod : (f : ℕ → ℕ) (n k : ℕ) → k < n → ((i : ℕ) → i < n → i ≢ k → SameMod p (f i) 0) →
+      SameMod p (sum_below f n) (f k)
   unfolding sum_below
   sum_only_mod f zero k l h = absurd (omega arith)
   sum_only_mod f (suc n) k l h =
       elim (cases_eq k n) [
         | inl last ↦
             let before : SameMod p (sum_below f n) 0 = sum_zero_mod f n (λ i m. h i (omega arith) (omega arith)) in
-            let joined : SameMod p (sum_below f n + f n) (0 + f k) = same_add p (sum_below f n) 0 (f n) (f k) before (ap (λ x. f x % p) (sym last)) in
+            let joined : SameMod p (sum_below f n + f n) (0 + f k) =
+            same_add p (sum_below f n) 0 (f n) (f k) before (ap (λ x. f x % p) (sym last)) in
             let zero_left : 0 + f k ≡ f k = omega arith in
             joined ∙ ap (λ x. x % p) zero_left
         | inr other ↦
-            let before : SameMod p (sum_below f n) (f k) = sum_only_mod f n k (omega arith) (λ i m. h i (omega arith)) in
+            let before : SameMod p (sum_below f n) (f k) =
+            sum_only_mod f n k (omega arith) (λ i m. h i (omega arith)) in
             let last : SameMod p (f n) 0 = h n (omega arith) (λ e. other (sym e)) in
-            let joined : SameMod p (sum_below f n + f n) (f k + 0) = same_add p (sum_below f n) (f k) (f n) 0 before last in
+            let joined : SameMod p (sum_below f n + f n) (f k + 0) =
+            same_add p (sum_below f n) (f k) (f n) 0 before last in
             let zero_right : f k + 0 ≡ f k = omega arith in
             joined ∙ ap (λ x. x % p) zero_right
       ]
@@ -104,7 +114,8 @@ sum_below_only f zero k l h = absurd (omega arith)
 sum_below_only f (suc n) k l h =
     elim (cases_eq k n) [
       | inl last ↦
-          let before : sum_below f n ≡ 0 = sum_below_same f (λ i. 0) n (λ i m. h i (omega arith) (omega arith)) ∙ sum_below-zeros n in
+          let before : sum_below f n ≡ 0 = sum_below_same f (λ i. 0) n (λ i m. h i (omega arith) (omega arith))
+          ∙ sum_below-zeros n in
           let same : f n ≡ f k = ap f (sym last) in
           omega arith
       | inr other ↦

@@ -12,7 +12,8 @@ use Rattle.bmp_math.specs.Vectors.{SameVector, unit, dot, IsLinear}
 use Rattle.bmp_math.specs.Matrices.{Matrix, combination, image}
 
 abbrev pub SumsExchange : Type 0
-SumsExchange = (f : ℕ → ℕ → ℕ) (m n : ℕ) → sum_below (λ i. sum_below (λ j. f i j) n) m ≡ sum_below (λ j. sum_below (λ i. f i j) m) n
+SumsExchange = (f : ℕ → ℕ → ℕ) (m n : ℕ) → sum_below (λ i. sum_below (λ j. f i j) n) m
+    ≡ sum_below (λ j. sum_below (λ i. f i j) m) n
 
 abbrev pub SumsJoin : Type 0
 SumsJoin = (f : ℕ → ℕ) (m n : ℕ) → sum_below f (m + n) ≡ sum_below f m + sum_below (λ i. f (m + i)) n

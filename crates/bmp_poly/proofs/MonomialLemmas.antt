@@ -9,10 +9,13 @@ use Rattle.bmp_poly.specs.Forms.{raised, lowered}
 use Rattle.bmp_poly.proofs.PlaceLemmas.{tail_monomial, place_below, exponents-place}
 
 -- monomials at one place are one
-pub same_place : (w r d : ℕ) (m n : List ℕ) → r ≤ w → IsMonomial w r d m → IsMonomial w r d n → place r m ≡ place r n → m ≡ n
-same_place w r d m n le h g e = sym (exponents-place w r d m le h) ∙ ap (exponents w r d) e ∙ exponents-place w r d n le g
+pub same_place : (w r d : ℕ) (m n : List ℕ) → r ≤ w → IsMonomial w r d m → IsMonomial w r d n → place r m ≡ place r n →
+    m ≡ n
+same_place w r d m n le h g e = sym (exponents-place w r d m le h) ∙ ap (exponents w r d) e
+    ∙ exponents-place w r d n le g
 
-pub raised_monomial : (w r d k : ℕ) (m : List ℕ) → r ≤ w → k < r → IsMonomial w r d m → IsMonomial w r (suc d) (raised k m)
+pub raised_monomial : (w r d k : ℕ) (m : List ℕ) → r ≤ w → k < r → IsMonomial w r d m →
+    IsMonomial w r (suc d) (raised k m)
 raised_monomial w r d k m le l h =
     let long : length m ≡ w = h.long in
     let below : k < length m = omega arith in
@@ -22,7 +25,8 @@ raised_monomial w r d k m le l h =
       past = λ j g. get_or-set_other m k j (get_or m k 0 + 1) 0 (omega arith) ∙ h.past j g;
     }
 
-pub lowered_monomial : (w r d k : ℕ) (m : List ℕ) → r ≤ w → k < r → 0 < get_or m k 0 → IsMonomial w r (suc d) m → IsMonomial w r d (lowered k m)
+pub lowered_monomial : (w r d k : ℕ) (m : List ℕ) → r ≤ w → k < r → 0 < get_or m k 0 → IsMonomial w r (suc d) m →
+    IsMonomial w r d (lowered k m)
 lowered_monomial w r d k m le l some h =
     let long : length m ≡ w = h.long in
     let below : k < length m = omega arith in
@@ -51,7 +55,8 @@ exponent_le w r d k m le l h =
     omega (arith, get_or-le-sum_by (λ (x : ℕ). x) m k 0 below, h.size)
 
 -- a step at a later variable stands later
-pub later_place : (w r d l k : ℕ) (m : List ℕ) → r ≤ w → l < k → k < r → IsMonomial w r d m → place r (raised l m) < place r (raised k m)
+pub later_place : (w r d l k : ℕ) (m : List ℕ) → r ≤ w → l < k → k < r → IsMonomial w r d m →
+    place r (raised l m) < place r (raised k m)
 unfolding place
 later_place w zero d l k m le before below h = absurd (omega arith)
 later_place w (suc r) d l k [] le before below h = let l : 0 ≡ w = h.long in absurd (omega arith)
@@ -59,10 +64,14 @@ later_place zero (suc r) d l k (x ∷ m) le before below h = absurd (omega arith
 later_place (suc w) (suc r) d l zero (x ∷ m) le before below h = absurd (omega arith)
 later_place (suc w) (suc r) d zero (suc k) (x ∷ m) le before below h =
     let tail : IsMonomial w r (sum m) m = tail_monomial w r d x m h in
-    let up : IsMonomial w r (suc (sum m)) (raised k m) = raised_monomial w r (sum m) k m (omega arith) (omega arith) tail in
+    let up : IsMonomial w r (suc (sum m)) (raised k m) =
+    raised_monomial w r (sum m) k m (omega arith) (omega arith) tail in
     rw up.size (omega (arith, sum_below-suc (count r) (sum m), place_below w r (sum m) m (omega arith) tail))
 later_place (suc w) (suc r) d (suc l) (suc k) (x ∷ m) le before below h =
     let tail : IsMonomial w r (sum m) m = tail_monomial w r d x m h in
-    let up : IsMonomial w r (suc (sum m)) (raised k m) = raised_monomial w r (sum m) k m (omega arith) (omega arith) tail in
-    let down : IsMonomial w r (suc (sum m)) (raised l m) = raised_monomial w r (sum m) l m (omega arith) (omega arith) tail in
-    rw (up.size, down.size) (omega (arith, later_place w r (sum m) l k m (omega arith) (omega arith) (omega arith) tail))
+    let up : IsMonomial w r (suc (sum m)) (raised k m) =
+    raised_monomial w r (sum m) k m (omega arith) (omega arith) tail in
+    let down : IsMonomial w r (suc (sum m)) (raised l m) =
+    raised_monomial w r (sum m) l m (omega arith) (omega arith) tail in
+    rw (up.size, down.size)
+    (omega (arith, later_place w r (sum m) l k m (omega arith) (omega arith) (omega arith) tail))

@@ -22,13 +22,15 @@ one_first coords k l at other = by (either k l)
 pub IsLeading-prop : (p r l : ℕ) (coords : List ℕ) → IsProp (IsLeading p r l coords)
 IsLeading-prop p r l coords = hlevel (le_prop, ℕ_set)
 
-pub one_label : (x y : Label) → prime_of x ≡ prime_of y → rank_of x ≡ rank_of y → coordinates_of x ≡ coordinates_of y → x ≡ y
+pub one_label : (x y : Label) → prime_of x ≡ prime_of y → rank_of x ≡ rank_of y → coordinates_of x ≡ coordinates_of y →
+    x ≡ y
 one_label x y prime rank coordinates =
     subst (λ p. Same p y.rank y.leading y.coords) prime
     (subst (λ r. Same x.prime r y.leading y.coords) rank
     (subst (λ l. Same x.prime x.rank l y.coords) leading
     (subst (λ (cs : List ℕ). Same x.prime x.rank x.leading cs) coordinates
-    (λ h k. ap₂ (made x.prime x.rank x.leading x.coords) (IsLeading-prop x.prime x.rank x.leading x.coords x.leads h) (ℕ_set _ _ x.six k))))) y.leads y.six
+    (λ h k. ap₂ (made x.prime x.rank x.leading x.coords) (IsLeading-prop x.prime x.rank x.leading x.coords x.leads h)
+    (ℕ_set _ _ x.six k))))) y.leads y.six
   where
     made : (p r l : ℕ) (coords : List ℕ) → IsLeading p r l coords → length coords ≡ 6 → Label
     made p r l coords leads six = record { prime = p; rank = r; leading = l; coords = coords; leads = leads; six = six }
@@ -37,4 +39,5 @@ one_label x y prime rank coordinates =
     Same p r l coords = (h : IsLeading p r l coords) (k : length coords ≡ 6) → x ≡ made p r l coords h k
 
     leading : x.leading ≡ y.leading
-    leading = one_first y.coords x.leading y.leading (subst (λ (cs : List ℕ). IsFirstNonzero cs x.leading) coordinates x.leads.first) y.leads.first
+    leading = one_first y.coords x.leading y.leading
+        (subst (λ (cs : List ℕ). IsFirstNonzero cs x.leading) coordinates x.leads.first) y.leads.first

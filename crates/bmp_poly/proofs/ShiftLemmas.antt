@@ -32,7 +32,8 @@ less_at (x ∷ e) [] k h = h
 less_at (x ∷ e) (y ∷ m) zero h = let z : x ≡ 0 = h in omega arith
 less_at (x ∷ e) (y ∷ m) (suc k) h = less_at e m k h
 
-pub less_monomial : (w r d k t : ℕ) (e m : List ℕ) → IsMonomial w r t e → IsMonomial w r k m → d + k ≡ t → contains e m ≡ true → IsMonomial w r d (less e m)
+pub less_monomial : (w r d k t : ℕ) (e m : List ℕ) → IsMonomial w r t e → IsMonomial w r k m → d + k ≡ t →
+    contains e m ≡ true → IsMonomial w r d (less e m)
 less_monomial w r d k t e m is_e is_m total h = record {
   long = length-less e m ∙ is_e.long;
   size = omega (arith, sum-less e m (is_e.long ∙ sym is_m.long) h, is_e.size, is_m.size);
@@ -44,14 +45,16 @@ unfolding joined
 length-joined [] [] l = refl
 length-joined [] (y ∷ n) l = refl
 length-joined (x ∷ m) [] l = l
-length-joined (x ∷ m) (y ∷ n) l = let sizes : suc (length m) ≡ suc (length n) = l in ap suc (length-joined m n (omega arith))
+length-joined (x ∷ m) (y ∷ n) l = let sizes : suc (length m) ≡ suc (length n) =
+    l in ap suc (length-joined m n (omega arith))
 
 sum-joined : (m n : List ℕ) → length m ≡ length n → sum (joined m n) ≡ sum m + sum n
 unfolding joined
 sum-joined [] [] l = refl
 sum-joined [] (y ∷ n) l = absurd (let e : 0 ≡ suc (length n) = l in omega arith)
 sum-joined (x ∷ m) [] l = absurd (let e : suc (length m) ≡ 0 = l in omega arith)
-sum-joined (x ∷ m) (y ∷ n) l = let sizes : suc (length m) ≡ suc (length n) = l in omega (arith, sum-cons (x + y) (joined m n), sum-cons x m, sum-cons y n, sum-joined m n (omega arith))
+sum-joined (x ∷ m) (y ∷ n) l = let sizes : suc (length m) ≡ suc (length n) =
+    l in omega (arith, sum-cons (x + y) (joined m n), sum-cons x m, sum-cons y n, sum-joined m n (omega arith))
 
 joined_at : (m n : List ℕ) (k : ℕ) → get_or m k 0 ≡ 0 → get_or n k 0 ≡ 0 → get_or (joined m n) k 0 ≡ 0
 unfolding joined
@@ -61,10 +64,15 @@ joined_at (x ∷ m) [] k h g = h
 joined_at (x ∷ m) (y ∷ n) zero h g = let a : x ≡ 0 = h in let b : y ≡ 0 = g in omega arith
 joined_at (x ∷ m) (y ∷ n) (suc k) h g = joined_at m n k h g
 
-pub joined_monomial : (w r k h : ℕ) (m n : List ℕ) → IsMonomial w r k m → IsMonomial w r h n → IsMonomial w r (k + h) (joined m n)
+pub joined_monomial : (w r k h : ℕ) (m n : List ℕ) → IsMonomial w r k m → IsMonomial w r h n →
+    IsMonomial w r (k + h) (joined m n)
 joined_monomial w r k h m n is_m is_n =
     let same : length m ≡ length n = is_m.long ∙ sym is_n.long in
-    record { long = length-joined m n same ∙ is_n.long; size = omega (arith, sum-joined m n same, is_m.size, is_n.size); past = λ j l. joined_at m n j (is_m.past j l) (is_n.past j l) }
+    record {
+      long = length-joined m n same ∙ is_n.long;
+      size = omega (arith, sum-joined m n same, is_m.size, is_n.size);
+      past = λ j l. joined_at m n j (is_m.past j l) (is_n.past j l);
+    }
 
 leb_sum : (a b x : ℕ) → leb b x ≡ true → leb (a + b) x ≡ leb a (x - b)
 leb_sum a b x h =
@@ -74,11 +82,13 @@ leb_sum a b x h =
       | inr fits ↦ le-leb (a + b) x (omega arith) ∙ sym (le-leb a (x - b) fits)
     ]
 
-pub contains-joined : (e m n : List ℕ) → length e ≡ length n → length m ≡ length n → contains e n ≡ true → contains e (joined m n) ≡ contains (less e n) m
+pub contains-joined : (e m n : List ℕ) → length e ≡ length n → length m ≡ length n → contains e n ≡ true →
+    contains e (joined m n) ≡ contains (less e n) m
 unfolding contains less joined
 contains-joined [] [] [] l g h = refl
 contains-joined [] [] (y ∷ n) l g h = absurd (let e : 0 ≡ suc (length n) = l in omega arith)
-contains-joined [] (x ∷ m) n l g h = absurd (let a : suc (length m) ≡ length n = g in let b : 0 ≡ length n = l in omega arith)
+contains-joined [] (x ∷ m) n l g h =
+    absurd (let a : suc (length m) ≡ length n = g in let b : 0 ≡ length n = l in omega arith)
 contains-joined (z ∷ e) m [] l g h = absurd (let a : suc (length e) ≡ 0 = l in omega arith)
 contains-joined (z ∷ e) [] (y ∷ n) l g h = absurd (let a : 0 ≡ suc (length n) = g in omega arith)
 contains-joined (z ∷ e) (x ∷ m) (y ∷ n) l g h =
@@ -101,10 +111,13 @@ less-joined (z ∷ e) (x ∷ m) (y ∷ n) l g =
     ap₂ (λ (s : ℕ) (t : List ℕ). s ∷ t) first (less-joined e m n (omega arith) (omega arith))
 
 -- what does not hold n does not hold more
-pub contains-joined_false : (e m n : List ℕ) → length e ≡ length n → length m ≡ length n → contains e n ≡ false → contains e (joined m n) ≡ false
+pub contains-joined_false : (e m n : List ℕ) → length e ≡ length n → length m ≡ length n → contains e n ≡ false →
+    contains e (joined m n) ≡ false
 unfolding contains joined
-contains-joined_false [] [] n l g h = elim n as (λ n. contains [] n ≡ false → contains [] (joined [] n) ≡ false) [ [] ↦ λ q. q | y ∷ n ↦ λ q. q ] h
-contains-joined_false [] (x ∷ m) n l g h = absurd (let a : suc (length m) ≡ length n = g in let b : 0 ≡ length n = l in omega arith)
+contains-joined_false [] [] n l g h =
+    elim n as (λ n. contains [] n ≡ false → contains [] (joined [] n) ≡ false) [ [] ↦ λ q. q | y ∷ n ↦ λ q. q ] h
+contains-joined_false [] (x ∷ m) n l g h =
+    absurd (let a : suc (length m) ≡ length n = g in let b : 0 ≡ length n = l in omega arith)
 contains-joined_false (z ∷ e) m [] l g h = absurd (let a : suc (length e) ≡ 0 = l in omega arith)
 contains-joined_false (z ∷ e) [] (y ∷ n) l g h = absurd (let a : 0 ≡ suc (length n) = g in omega arith)
 contains-joined_false (z ∷ e) (x ∷ m) (y ∷ n) l g h =
@@ -116,7 +129,8 @@ contains-joined_false (z ∷ e) (x ∷ m) (y ∷ n) l g h =
             | inl fits ↦ absurd (elim (both_true (leb y z) (contains e n) fits rest h) [ ])
             | inr more ↦ let above : z < y = leb-false y z more in rw (lt-leb (x + y) z (omega arith)) refl
           ]
-      | inr none ↦ let later = contains-joined_false e m n (omega arith) (omega arith) none in and_false (leb (x + y) z) (contains e (joined m n)) later
+      | inr none ↦ let later = contains-joined_false e m n (omega arith) (omega arith) none in
+          and_false (leb (x + y) z) (contains e (joined m n)) later
     ]
   where
     both_true : (s t : Bool) → s ≡ true → t ≡ true → (s && t) ≡ false → ⊥

@@ -7,7 +7,8 @@
 --   Takes before after bytes     the sink took these bytes, and no others
 --   TakesPrefix before after bytes
 --                                the sink took a prefix of these bytes
--- Each relation says also that a port which tells its bytes goes on telling them, and that one which doesn't never will.
+-- Each relation says also that a port which tells its bytes goes on telling them, and that one which doesn't never
+-- will.
 use Rattle.std.specs.Prelude.{◌≡◌, ◌⊎◌, ◌<◌, ◌≤◌, ◌^◌, ◌-◌, ℕ, List, [], ◌++◌, length, take, Option, Some, None}
 
 -- it is greater than before, or stands at the last value of a 64 bit counter

@@ -28,7 +28,8 @@ member_simple : (n k : ℕ) → k < n → Member (simple_pair k) (simple_pairs n
 member_simple zero k l = absurd (omega arith)
 member_simple (suc n) k l =
     elim (cases_eq k n) [
-      | inl e ↦ subst (λ j. Member (simple_pair j) (simple_pairs n ++ simple_pair n ∷ [])) (sym e) (member-last (simple_pair n) (simple_pairs n))
+      | inl e ↦ subst (λ j. Member (simple_pair j) (simple_pairs n ++ simple_pair n ∷ [])) (sym e)
+          (member-last (simple_pair n) (simple_pairs n))
       | inr apart ↦ member-left (simple_pair k) (simple_pairs n) (simple_pair n ∷ []) (member_simple n k (omega arith))
     ]
 
@@ -42,19 +43,23 @@ units_apart k n l e =
 simple_once : (n : ℕ) → HasEachOnce (simple_pairs n)
 simple_once zero = tt
 simple_once (suc n) = once-push (simple_pairs n) (simple_pair n) (simple_once n)
-    (λ h. let r : (k : ℕ) × (k < n) × (simple_pair n ≡ simple_pair k) = simple_member n (simple_pair n) h in units_apart r.0 n r.1 r.2)
+    (λ h. let r : (k : ℕ) × (k < n) × (simple_pair n ≡ simple_pair k) = simple_member n (simple_pair n) h in
+    units_apart r.0 n r.1 r.2)
 
 pub simple_small : (k : ℕ) → IsSmall (simple_pair k)
 simple_small k j =
     elim (cases_eq j k) [
-      | inl e ↦ let one : integer_unit k j ≡ pos 1 = ap (λ i. integer_unit k i) e ∙ unit_at k in ((omega (arith, ints), omega (arith, ints)), (omega (arith, ints), omega (arith, ints)))
-      | inr apart ↦ let none : integer_unit k j ≡ pos 0 = unit_off k j apart in ((omega (arith, ints), omega (arith, ints)), (omega (arith, ints), omega (arith, ints)))
+      | inl e ↦ let one : integer_unit k j ≡ pos 1 = ap (λ i. integer_unit k i) e ∙ unit_at k in
+          ((omega (arith, ints), omega (arith, ints)), (omega (arith, ints), omega (arith, ints)))
+      | inr apart ↦ let none : integer_unit k j ≡ pos 0 = unit_off k j apart in
+          ((omega (arith, ints), omega (arith, ints)), (omega (arith, ints), omega (arith, ints)))
     ]
 
 simple_one_sign : (k : ℕ) → HasOneSign (simple_pair k)
 simple_one_sign k i j below above =
     elim (cases_eq i k) [
-      | inl e ↦ let one : integer_unit k i ≡ pos 1 = ap (λ j. integer_unit k j) e ∙ unit_at k in absurd (omega (arith, ints))
+      | inl e ↦ let one : integer_unit k i ≡ pos 1 = ap (λ j. integer_unit k j) e ∙ unit_at k in
+          absurd (omega (arith, ints))
       | inr apart ↦ let none : integer_unit k i ≡ pos 0 = unit_off k i apart in absurd (omega (arith, ints))
     ]
 
@@ -69,11 +74,13 @@ module _ (m : CartanMatrix) where
 
   pub grown_rank : {list : List RootPair} → IsGrown m list → m.rank ≤ length list
   grown_rank start = omega (arith, length-simple_pairs m.rank)
-  grown_rank (grown {list} q before next small one_sign room) = omega (arith, length-append list (q ∷ []), grown_rank before)
+  grown_rank (grown {list} q before next small one_sign room) =
+      omega (arith, length-append list (q ∷ []), grown_rank before)
 
   pub grown_simple : {list : List RootPair} → IsGrown m list → (k : ℕ) → k < m.rank → Member (simple_pair k) list
   grown_simple start k l = member_simple m.rank k l
-  grown_simple (grown {list} q before next small one_sign room) k l = member-left (simple_pair k) list (q ∷ []) (grown_simple before k l)
+  grown_simple (grown {list} q before next small one_sign room) k l =
+      member-left (simple_pair k) list (q ∷ []) (grown_simple before k l)
 
   pub grown_pairs : {list : List RootPair} → IsGrown m list → (q : RootPair) → Member q list → IsRootPair m q
   grown_pairs start p h =
@@ -85,25 +92,30 @@ module _ (m : CartanMatrix) where
         | inr e ↦
             let at : RootPair = get_or list next.place (simple_pair 0) in
             subst (IsRootPair m) (sym (e ∙ next.is))
-            (moved_is_pair m next.letter at next.letter_below (grown_pairs before at (member_at list next.place (simple_pair 0) next.place_below)))
+            (moved_is_pair m next.letter at next.letter_below
+            (grown_pairs before at (member_at list next.place (simple_pair 0) next.place_below)))
       ]
 
   pub grown_small : {list : List RootPair} → IsGrown m list → (q : RootPair) → Member q list → IsSmall q
   grown_small start p h =
-      let r : (k : ℕ) × (k < m.rank) × (p ≡ simple_pair k) = simple_member m.rank p h in subst IsSmall (sym r.2) (simple_small r.0)
+      let r : (k : ℕ) × (k < m.rank) × (p ≡ simple_pair k) = simple_member m.rank p h in
+      subst IsSmall (sym r.2) (simple_small r.0)
   grown_small (grown {list} q before next small one_sign room) p h =
       elim (member-split p q list h) [ inl k ↦ grown_small before p k | inr e ↦ subst IsSmall (sym e) small ]
 
   pub grown_one_sign : {list : List RootPair} → IsGrown m list → (q : RootPair) → Member q list → HasOneSign q
   grown_one_sign start p h =
-      let r : (k : ℕ) × (k < m.rank) × (p ≡ simple_pair k) = simple_member m.rank p h in subst HasOneSign (sym r.2) (simple_one_sign r.0)
+      let r : (k : ℕ) × (k < m.rank) × (p ≡ simple_pair k) = simple_member m.rank p h in
+      subst HasOneSign (sym r.2) (simple_one_sign r.0)
   grown_one_sign (grown {list} q before next small one_sign room) p h =
       elim (member-split p q list h) [ inl k ↦ grown_one_sign before p k | inr e ↦ subst HasOneSign (sym e) one_sign ]
 
   pub next_is_pair : {list : List RootPair} (q : RootPair) → IsGrown m list → IsNext m list q → IsRootPair m q
   next_is_pair {list} q h next =
       let at : RootPair = get_or list next.place (simple_pair 0) in
-      subst (IsRootPair m) (sym next.is) (moved_is_pair m next.letter at next.letter_below (grown_pairs h at (member_at list next.place (simple_pair 0) next.place_below)))
+      subst (IsRootPair m) (sym next.is)
+      (moved_is_pair m next.letter at next.letter_below
+      (grown_pairs h at (member_at list next.place (simple_pair 0) next.place_below)))
 
   -- a closed list holds the pairs and no others
   pub closed_each : (list : List RootPair) → IsClosed m list → (q : RootPair) → IsRootPair m q → Member q list
@@ -122,16 +134,21 @@ module _ (m : CartanMatrix) where
   }
 
   -- each refusal is right
-  pub refused_small : (list : List RootPair) (q : RootPair) → IsGrown m list → IsNext m list q → (IsSmall q → ⊥) → HasFiniteSystem m → ⊥
+  pub refused_small : (list : List RootPair) (q : RootPair) → IsGrown m list → IsNext m list q → (IsSmall q → ⊥) →
+      HasFiniteSystem m → ⊥
   refused_small list q h next bad finite = bad (finite.small q (next_is_pair q h next))
 
-  pub refused_sign : (list : List RootPair) (q : RootPair) → IsGrown m list → IsNext m list q → (HasOneSign q → ⊥) → HasFiniteSystem m → ⊥
+  pub refused_sign : (list : List RootPair) (q : RootPair) → IsGrown m list → IsNext m list q → (HasOneSign q → ⊥) →
+      HasFiniteSystem m → ⊥
   refused_sign list q h next bad finite = bad (finite.one_sign q (next_is_pair q h next))
 
-  pub refused_pairs : (list : List RootPair) (q : RootPair) → IsGrown m list → IsNext m list q → length list ≡ 72 → HasFiniteSystem m → ⊥
+  pub refused_pairs : (list : List RootPair) (q : RootPair) → IsGrown m list → IsNext m list q → length list ≡ 72 →
+      HasFiniteSystem m → ⊥
   refused_pairs list q h next full finite =
       let held : (p : RootPair) → Member p (list ++ q ∷ []) → Member p finite.pairs =
-      λ p k. finite.each_pair p (elim (member-split p q list k) [ inl l ↦ grown_pairs h p l | inr e ↦ subst (IsRootPair m) (sym e) (next_is_pair q h next) ]) in
+      λ p k. finite.each_pair p
+      (elim (member-split p q list k)
+      [ inl l ↦ grown_pairs h p l | inr e ↦ subst (IsRootPair m) (sym e) (next_is_pair q h next) ]) in
       absurd (omega (
         arith,
         length_within (list ++ q ∷ []) finite.pairs (once-push list q (grown_once h) next.fresh) held,
@@ -140,35 +157,47 @@ module _ (m : CartanMatrix) where
       ))
 
   -- ---- the steps of the loops
-  pub results_kept : (list : List RootPair) (q : RootPair) (i k : ℕ) → i < length list → HasResultsBefore m list i k → Member (result_at m list i k) (list ++ q ∷ [])
+  pub results_kept : (list : List RootPair) (q : RootPair) (i k : ℕ) → i < length list → HasResultsBefore m list i k →
+      Member (result_at m list i k) (list ++ q ∷ [])
       → HasResultsBefore m (list ++ q ∷ []) i (k + 1)
   results_kept list q i k below before here p l in_list letter earlier =
       let inside : p < length list = elim earlier [ inl h ↦ omega arith | inr h ↦ omega (arith, h.0) ] in
-      subst (λ r. Member (mirrored m (simple_pair l) r) (list ++ q ∷ [])) (sym (get_or_append_left list (q ∷ []) (simple_pair 0) p inside))
+      subst (λ r. Member (mirrored m (simple_pair l) r) (list ++ q ∷ []))
+      (sym (get_or_append_left list (q ∷ []) (simple_pair 0) p inside))
       (elim earlier [
         | inl h ↦ member-left (result_at m list p l) list (q ∷ []) (before p l inside letter (inl h))
         | inr h ↦ elim (cases_eq l k) [
-          | inl e ↦ subst (λ r. Member r (list ++ q ∷ [])) (ap (λ a. result_at m list a k) (sym h.0) ∙ ap (λ a. result_at m list p a) (sym e)) here
-          | inr apart ↦ member-left (result_at m list p l) list (q ∷ []) (before p l inside letter (inr (h.0, omega (arith, h.1))))
+          | inl e ↦ subst (λ r. Member r (list ++ q ∷ [])) (ap (λ a. result_at m list a k) (sym h.0)
+              ∙ ap (λ a. result_at m list p a) (sym e)) here
+          | inr apart ↦ member-left (result_at m list p l) list (q ∷ [])
+              (before p l inside letter (inr (h.0, omega (arith, h.1))))
         ]
       ])
 
-  pub results_held : (list : List RootPair) (i k : ℕ) → HasResultsBefore m list i k → Member (result_at m list i k) list → HasResultsBefore m list i (k + 1)
+  pub results_held : (list : List RootPair) (i k : ℕ) → HasResultsBefore m list i k →
+      Member (result_at m list i k) list → HasResultsBefore m list i (k + 1)
   results_held list i k before here p l in_list letter earlier =
       elim earlier [
         | inl h ↦ before p l in_list letter (inl h)
         | inr h ↦ elim (cases_eq l k) [
-          | inl e ↦ subst (λ r. Member r list) (ap (λ a. result_at m list a k) (sym h.0) ∙ ap (λ a. result_at m list p a) (sym e)) here
+          | inl e ↦ subst (λ r. Member r list) (ap (λ a. result_at m list a k) (sym h.0)
+              ∙ ap (λ a. result_at m list p a) (sym e)) here
           | inr apart ↦ before p l in_list letter (inr (h.0, omega (arith, h.1)))
         ]
       ]
 
-  pub results_next : (list : List RootPair) (i : ℕ) → HasResultsBefore m list i m.rank → HasResultsBefore m list (i + 1) 0
+  pub results_next : (list : List RootPair) (i : ℕ) → HasResultsBefore m list i m.rank →
+      HasResultsBefore m list (i + 1) 0
   results_next list i before p l in_list letter earlier =
       elim earlier [
-        | inl h ↦ elim (cases_eq p i) [ inl e ↦ before p l in_list letter (inr (e, letter)) | inr apart ↦ before p l in_list letter (inl (omega arith)) ]
+        | inl h ↦ elim (cases_eq p i) [
+          | inl e ↦ before p l in_list letter (inr (e, letter))
+          | inr apart ↦ before p l in_list letter
+              (inl (omega arith))
+        ]
         | inr h ↦ absurd (omega (arith, h.1))
       ]
 
   pub results_none : (list : List RootPair) → HasResultsBefore m list 0 0
-  results_none list p l in_list letter earlier = elim earlier [ inl h ↦ absurd (omega arith) | inr h ↦ absurd (omega (arith, h.1)) ]
+  results_none list p l in_list letter earlier =
+      elim earlier [ inl h ↦ absurd (omega arith) | inr h ↦ absurd (omega (arith, h.1)) ]

@@ -61,23 +61,28 @@ all_below_decided P each (suc n) =
       | inr some ↦ inr (λ all. some (λ k l. all k (omega arith)))
       | inl before ↦ elim (each n) [
         | inr never ↦ inr (λ all. never (all n (omega arith)))
-        | inl last ↦ inl (λ k l. elim (cases_eq k n) [ inl e ↦ subst P (sym e) last | inr apart ↦ before k (omega arith) ])
+        | inl last ↦ inl (λ k l. elim (cases_eq k n)
+            [ inl e ↦ subst P (sym e) last | inr apart ↦ before k (omega arith) ])
       ]
     ]
 
 -- some number below n, or none
-pub some_below_decided : (n : ℕ) (P : ℕ → Type 0) → ((k : ℕ) → k < n → Decided (P k)) → Decided ((k : ℕ) × (k < n) × P k)
+pub some_below_decided : (n : ℕ) (P : ℕ → Type 0) → ((k : ℕ) → k < n → Decided (P k)) →
+    Decided ((k : ℕ) × (k < n) × P k)
 some_below_decided zero P each = inr (λ r. absurd (omega (arith, r.1)))
 some_below_decided (suc n) P each =
     elim (some_below_decided n P (λ k l. each k (omega arith))) [
       | inl r ↦ inl (r.0, omega (arith, r.1), r.2)
       | inr none ↦ elim (each n (omega arith)) [
         | inl here ↦ inl (n, omega arith, here)
-        | inr never ↦ inr (λ r. elim (cases_eq r.0 n) [ inl e ↦ never (subst P e r.2) | inr apart ↦ none (r.0, omega (arith, r.1, apart), r.2) ])
+        | inr never ↦ inr
+            (λ r. elim (cases_eq r.0 n)
+            [ inl e ↦ never (subst P e r.2) | inr apart ↦ none (r.0, omega (arith, r.1, apart), r.2) ])
       ]
     ]
 
-pub member_decided : {X : Type 0} (x : X) (xs : List X) → ((y : X) → Member y xs → Decided (x ≡ y)) → Decided (Member x xs)
+pub member_decided : {X : Type 0} (x : X) (xs : List X) → ((y : X) → Member y xs → Decided (x ≡ y)) →
+    Decided (Member x xs)
 member_decided x [] same = inr (λ h. h)
 member_decided x (y ∷ ys) same = either_decided (same y (inl refl)) (member_decided x ys (λ z h. same z (inr h)))
 

@@ -32,13 +32,18 @@ divides-sum n f (suc k) h =
 divides-mul : (n : ℕ) (c z : ℤ) → Divides n z → Divides n (c *ℤ z)
 divides-mul n c z (t, e) = (c *ℤ t, ap (λ x. c *ℤ x) e ∙ mul_swap c (pos n) t)
 
-divides-minus_times : (n : ℕ) (v b : Vector) (t : ℤ) (j : ℕ) → Divides n (v j) → Divides n (b j) → Divides n (minus_times v t b j)
-divides-minus_times n v b t j (x, e) (y, h) =
-    (x -ℤ t *ℤ y, ap₂ (λ p q. p -ℤ t *ℤ q) e h ∙ ap (λ z. (pos n *ℤ x) -ℤ z) (mul_swap t (pos n) y) ∙ sym (mul-sub (pos n) x (t *ℤ y)))
+divides-minus_times : (n : ℕ) (v b : Vector) (t : ℤ) (j : ℕ) → Divides n (v j) → Divides n (b j) →
+    Divides n (minus_times v t b j)
+divides-minus_times n v b t j (x, e) (y, h) = (
+  x -ℤ t *ℤ y,
+  ap₂ (λ p q. p -ℤ t *ℤ q) e h ∙ ap (λ z. (pos n *ℤ x) -ℤ z) (mul_swap t (pos n) y)
+      ∙ sym (mul-sub (pos n) x (t *ℤ y)),
+)
 
 module _ (m : CartanMatrix) where
   pub simple_is_pair : (k : ℕ) → k < m.rank → IsRootPair m (simple_pair k)
-  simple_is_pair k l = record { word = []; letters = All-nil (λ k. k < m.rank); first = k; first_below = l; reached = refl }
+  simple_is_pair k l =
+      record { word = []; letters = All-nil (λ k. k < m.rank); first = k; first_below = l; reached = refl }
 
   pub moved_is_pair : (k : ℕ) (q : RootPair) → k < m.rank → IsRootPair m q → IsRootPair m (mirrored m (simple_pair k) q)
   moved_is_pair k q l h = record {
@@ -49,15 +54,18 @@ module _ (m : CartanMatrix) where
     reached = ap (mirrored m (simple_pair k)) h.reached;
   }
 
-  least_walk : (P : RootPair → Type 0) → ((k : ℕ) → k < m.rank → P (simple_pair k)) → ((k : ℕ) (q : RootPair) → k < m.rank → P q → P (mirrored m (simple_pair k) q))
-      → (word : List ℕ) → All (λ k. k < m.rank) word → (first : ℕ) → first < m.rank → P (walk m word (simple_pair first))
+  least_walk : (P : RootPair → Type 0) → ((k : ℕ) → k < m.rank → P (simple_pair k)) →
+      ((k : ℕ) (q : RootPair) → k < m.rank → P q → P (mirrored m (simple_pair k) q))
+      → (word : List ℕ) → All (λ k. k < m.rank) word → (first : ℕ) → first < m.rank →
+      P (walk m word (simple_pair first))
   least_walk P start step [] letters first l = start first l
   least_walk P start step (k ∷ word) letters first l =
       step k (walk m word (simple_pair first)) (All-head (λ k. k < m.rank) k word letters)
       (least_walk P start step word (All-tail (λ k. k < m.rank) k word letters) first l)
 
   -- the root pairs are the least set with these two
-  pub least : (P : RootPair → Type 0) → ((k : ℕ) → k < m.rank → P (simple_pair k)) → ((k : ℕ) (q : RootPair) → k < m.rank → P q → P (mirrored m (simple_pair k) q))
+  pub least : (P : RootPair → Type 0) → ((k : ℕ) → k < m.rank → P (simple_pair k)) →
+      ((k : ℕ) (q : RootPair) → k < m.rank → P q → P (mirrored m (simple_pair k) q))
       → (q : RootPair) → IsRootPair m q → P q
   least P start step q h = subst P h.reached (least_walk P start step h.word h.letters h.first h.first_below)
 
@@ -68,9 +76,14 @@ module _ (m : CartanMatrix) where
       divides-mul n (c i) (integer_sum (λ j. entry m i j *ℤ v j) m.rank)
       (divides-sum n (λ j. entry m i j *ℤ v j) m.rank (λ j h. divides-mul n (entry m i j) (v j) (all j h))))
 
-  divides-minus_root : (n : ℕ) (v : Vector) (k j : ℕ) → Divides n (v j) → Divides n (pairing m (integer_unit k) v) → Divides n (across m (simple_pair k) v j)
-  divides-minus_root n v k j (x, e) (y, h) =
-      (x -ℤ y *ℤ integer_unit k j, ap₂ (λ p t. p -ℤ t *ℤ integer_unit k j) e h ∙ ap (λ z. (pos n *ℤ x) -ℤ z) (mul_assoc (pos n) y (integer_unit k j)) ∙ sym (mul-sub (pos n) x (y *ℤ integer_unit k j)))
+  divides-minus_root : (n : ℕ) (v : Vector) (k j : ℕ) → Divides n (v j) → Divides n (pairing m (integer_unit k) v) →
+      Divides n (across m (simple_pair k) v j)
+  divides-minus_root n v k j (x, e) (y, h) = (
+    x -ℤ y *ℤ integer_unit k j,
+    ap₂ (λ p t. p -ℤ t *ℤ integer_unit k j) e h
+        ∙ ap (λ z. (pos n *ℤ x) -ℤ z) (mul_assoc (pos n) y (integer_unit k j))
+        ∙ sym (mul-sub (pos n) x (y *ℤ integer_unit k j)),
+  )
 
   module _ (form : HasCartanForm m) where
     pub simple_two : (k : ℕ) → k < m.rank → pairing m (integer_unit k) (integer_unit k) ≡ pos 2
@@ -90,7 +103,8 @@ module _ (m : CartanMatrix) where
         let f : ℤ = pairing m s.coroot q.root in
         let same : pairing m (coacross m s q.coroot) p.root ≡ n = coacross_adjoint m s q.coroot p.root in
         let back : across m s w j ≡ p.root j = ap (λ v. v j) (across-across m s p.root two) in
-        let split : pairing m s.coroot (minus_times w n q.root) ≡ pairing m s.coroot w -ℤ n *ℤ f = pairing-minus_right m s.coroot w q.root n in
+        let split : pairing m s.coroot (minus_times w n q.root) ≡ pairing m s.coroot w -ℤ n *ℤ f =
+        pairing-minus_right m s.coroot w q.root n in
         omega (
           arith,
           ints,
@@ -107,7 +121,8 @@ module _ (m : CartanMatrix) where
         let f : ℤ = pairing m q.coroot s.root in
         let same : pairing m p.coroot (across m s q.root) ≡ n = sym (coacross_adjoint m s p.coroot q.root) in
         let back : coacross m s w j ≡ p.coroot j = ap (λ v. v j) (coacross-coacross m s p.coroot two) in
-        let split : pairing m (minus_times w n q.coroot) s.root ≡ pairing m w s.root -ℤ n *ℤ f = pairing-minus_left m w q.coroot s.root n in
+        let split : pairing m (minus_times w n q.coroot) s.root ≡ pairing m w s.root -ℤ n *ℤ f =
+        pairing-minus_left m w q.coroot s.root n in
         omega (
           arith,
           ints,
@@ -120,14 +135,17 @@ module _ (m : CartanMatrix) where
         )))
 
     -- the reflection of a pair sends pairs to pairs
-    pub mirrored_is_pair : (q : RootPair) → IsRootPair m q → (p : RootPair) → IsRootPair m p → IsRootPair m (mirrored m q p)
+    pub mirrored_is_pair : (q : RootPair) → IsRootPair m q → (p : RootPair) → IsRootPair m p →
+        IsRootPair m (mirrored m q p)
     mirrored_is_pair = least (λ q. (p : RootPair) → IsRootPair m p → IsRootPair m (mirrored m q p))
         (λ k l p h. moved_is_pair k p l h)
         (λ k q l before p h.
         subst (IsRootPair m) (sym (mirrored_mirrored (simple_pair k) q p (simple_two k l)))
-        (moved_is_pair k (mirrored m q (mirrored m (simple_pair k) p)) l (before (mirrored m (simple_pair k) p) (moved_is_pair k p l h))))
+        (moved_is_pair k (mirrored m q (mirrored m (simple_pair k) p)) l
+        (before (mirrored m (simple_pair k) p) (moved_is_pair k p l h))))
 
-    pub negative_is_pair : (q : RootPair) → IsRootPair m q → IsRootPair m (record { root = λ j. neg_ℤ (q.root j); coroot = λ j. neg_ℤ (q.coroot j) })
+    pub negative_is_pair : (q : RootPair) → IsRootPair m q →
+        IsRootPair m (record { root = λ j. neg_ℤ (q.root j); coroot = λ j. neg_ℤ (q.coroot j) })
     negative_is_pair q h =
         let two : pairing m q.coroot q.root ≡ pos 2 = pair_two q h in
         subst (IsRootPair m)
@@ -139,47 +157,62 @@ module _ (m : CartanMatrix) where
     -- ---- a root has one coroot
     -- the coroot moves by twice the difference at each turn
     shifted : (n : ℕ) (q p : RootPair) → IsRootPair m q → IsRootPair m p → q.root ≡ p.root
-        → (x : Vector) × IsRootPair m (record { root = q.root; coroot = x }) × ((j : ℕ) → x j ≡ q.coroot j -ℤ pos (2 * n) *ℤ (p.coroot j -ℤ q.coroot j))
+        → (x : Vector) × IsRootPair m (record { root = q.root; coroot = x }) ×
+        ((j : ℕ) → x j ≡ q.coroot j -ℤ pos (2 * n) *ℤ (p.coroot j -ℤ q.coroot j))
     shifted zero q p h k e = (q.coroot, h, λ j. omega (arith, ints))
     shifted (suc n) q p h k e =
-        let r : (x : Vector) × IsRootPair m (record { root = q.root; coroot = x }) × ((j : ℕ) → x j ≡ q.coroot j -ℤ pos (2 * n) *ℤ (p.coroot j -ℤ q.coroot j)) = shifted n q p h k e in
+        let r : (x : Vector) × IsRootPair m (record { root = q.root; coroot = x }) ×
+        ((j : ℕ) → x j ≡ q.coroot j -ℤ pos (2 * n) *ℤ (p.coroot j -ℤ q.coroot j)) = shifted n q p h k e in
         let at : RootPair = record { root = q.root; coroot = r.0 } in
         let next : Vector = λ j. r.0 j -ℤ pos 2 *ℤ (p.coroot j -ℤ q.coroot j) in
         let turned : RootPair = mirrored m q (mirrored m p at) in
         let q_two : pairing m q.coroot q.root ≡ pos 2 = pair_two q h in
         let p_two : pairing m p.coroot q.root ≡ pos 2 = ap (λ v. pairing m p.coroot v) e ∙ pair_two p k in
         let at_two : pairing m r.0 q.root ≡ pos 2 = pair_two at r.1 in
-        let at_two_p : pairing m r.0 p.root ≡ pos 2 = ap (λ v. pairing m r.0 v) (sym e) ∙ at_two in
-        let first : pairing m q.coroot (across m p q.root) ≡ pairing m q.coroot q.root -ℤ pairing m p.coroot q.root *ℤ pairing m q.coroot p.root =
+        let at_p : pairing m r.0 p.root ≡ pos 2 = ap (λ v. pairing m r.0 v) (sym e) ∙ at_two in
+        let first : pairing m q.coroot (across m p q.root) ≡ pairing m q.coroot q.root -ℤ pairing m p.coroot q.root *ℤ
+        pairing m q.coroot p.root =
         pairing-minus_right m q.coroot q.root p.root (pairing m p.coroot q.root) in
         let q_on_p : pairing m q.coroot p.root ≡ pos 2 = ap (λ v. pairing m q.coroot v) (sym e) ∙ q_two in
         let first_is : pairing m q.coroot (across m p q.root) ≡ negsuc 1 =
         omega (arith, ints, first, q_two, ap (λ x. x *ℤ pairing m q.coroot p.root) p_two, q_on_p) in
-        let second : pairing m (coacross m p r.0) q.root ≡ pairing m r.0 q.root -ℤ pairing m r.0 p.root *ℤ pairing m p.coroot q.root =
+        let second : pairing m (coacross m p r.0) q.root ≡ pairing m r.0 q.root -ℤ pairing m r.0 p.root *ℤ pairing m
+        p.coroot q.root =
         pairing-minus_left m r.0 p.coroot q.root (pairing m r.0 p.root) in
         let second_is : pairing m (coacross m p r.0) q.root ≡ negsuc 1 =
-        omega (arith, ints, second, at_two, ap (λ x. x *ℤ pairing m p.coroot q.root) at_two_p, p_two) in
+        omega (arith, ints, second, at_two, ap (λ x. x *ℤ pairing m p.coroot q.root) at_p, p_two) in
         let same : turned ≡ record { root = q.root; coroot = next } =
         same_pair turned (record { root = q.root; coroot = next })
-        (fun_ext (λ j. omega (arith, ints, ap (λ x. x *ℤ q.root j) first_is, ap (λ x. x *ℤ p.root j) p_two, ap (λ v. v j) e)))
-        (fun_ext (λ j. omega (arith, ints, ap (λ x. x *ℤ q.coroot j) second_is, ap (λ x. x *ℤ p.coroot j) at_two_p))) in (
+        (fun_ext (λ j. omega (
+          arith,
+          ints,
+          ap (λ x. x *ℤ q.root j) first_is,
+          ap (λ x. x *ℤ p.root j) p_two,
+          ap (λ v. v j) e,
+        )))
+        (fun_ext (λ j. omega (arith, ints, ap (λ x. x *ℤ q.coroot j) second_is, ap (λ x. x *ℤ p.coroot j) at_p))) in (
           next,
           subst (IsRootPair m) same (mirrored_is_pair q h (mirrored m p at) (mirrored_is_pair p k at r.1)),
-          λ j. let more : pos (2 * suc n) *ℤ (p.coroot j -ℤ q.coroot j) ≡ pos (2 * n) *ℤ (p.coroot j -ℤ q.coroot j) +ℤ pos 2 *ℤ (p.coroot j -ℤ q.coroot j) =
+          λ j. let more : pos (2 * suc n) *ℤ (p.coroot j -ℤ q.coroot j) ≡ pos (2 * n) *ℤ (p.coroot j -ℤ q.coroot j) +ℤ
+              pos 2 *ℤ (p.coroot j -ℤ q.coroot j) =
               let sum : pos (2 * suc n) ≡ pos (2 * n) +ℤ pos 2 = omega (arith, ints) in
-              ap (λ x. x *ℤ (p.coroot j -ℤ q.coroot j)) sum ∙ add-mul (pos (2 * n)) (pos 2) (p.coroot j -ℤ q.coroot j) in
+              ap (λ x. x *ℤ (p.coroot j -ℤ q.coroot j)) sum
+              ∙ add-mul (pos (2 * n)) (pos 2) (p.coroot j -ℤ q.coroot j) in
               omega (arith, ints, r.2 j, more),
         )
 
-    pub one_coroot : HasFiniteSystem m → (q p : RootPair) → IsRootPair m q → IsRootPair m p → q.root ≡ p.root → q.coroot ≡ p.coroot
+    pub one_coroot : HasFiniteSystem m → (q p : RootPair) → IsRootPair m q → IsRootPair m p → q.root ≡ p.root →
+        q.coroot ≡ p.coroot
     one_coroot finite q p h k e = fun_ext (λ j.
-        let r : (x : Vector) × IsRootPair m (record { root = q.root; coroot = x }) × ((j : ℕ) → x j ≡ q.coroot j -ℤ pos (2 * 33) *ℤ (p.coroot j -ℤ q.coroot j)) = shifted 33 q p h k e in
+        let r : (x : Vector) × IsRootPair m (record { root = q.root; coroot = x }) ×
+        ((j : ℕ) → x j ≡ q.coroot j -ℤ pos (2 * 33) *ℤ (p.coroot j -ℤ q.coroot j)) = shifted 33 q p h k e in
         let far : IsWithin 32 (r.0 j) = (finite.small (record { root = q.root; coroot = r.0 }) r.1 j).1 in
         let near : IsWithin 32 (q.coroot j) = (finite.small q h j).1 in
         omega (arith, ints, r.2 j))
 
     -- no number from 2 on divides a whole root
-    pub primitive_root : (n : ℕ) → 2 ≤ n → (q : RootPair) → IsRootPair m q → ((j : ℕ) → j < m.rank → Divides n (q.root j)) → ⊥
+    pub primitive_root : (n : ℕ) → 2 ≤ n → (q : RootPair) → IsRootPair m q →
+        ((j : ℕ) → j < m.rank → Divides n (q.root j)) → ⊥
     primitive_root n big = least (λ q. ((j : ℕ) → j < m.rank → Divides n (q.root j)) → ⊥)
         (λ k l all. let d : Divides n (integer_unit k k) = all k l in no_unit n d.0 big (sym d.1 ∙ unit_at k))
         (λ k q l before all. before (λ j h.

@@ -43,7 +43,8 @@ place_negative (suc n) v j l h =
 
 pub not_negative : (n : ℕ) (v : Vector) → has_negative n v ≡ false → (j : ℕ) → j < n → pos 0 ≤ℤ v j
 not_negative n v h j l =
-    by_sign (v j) (λ below. absurd (let t : has_negative n v ≡ true = place_negative n v j l below in true_false (has_negative n v) t h)) (λ k. k)
+    by_sign (v j) (λ below. absurd (let t : has_negative n v ≡ true = place_negative n v j l below in
+    true_false (has_negative n v) t h)) (λ k. k)
   where
     true_false : (b : Bool) → b ≡ true → b ≡ false → ⊥
     true_false b p q = cc
@@ -60,7 +61,8 @@ all_not_negative n v least h =
     absurd (omega (arith, ints))
 
 -- a coordinate above 0 away from k, or none
-pub search_above : (n k : ℕ) (v : Vector) → ((j : ℕ) × (j < n) × (j ≢ k) × (pos 0 <ℤ v j)) ⊎ ((j : ℕ) → j < n → j ≢ k → v j ≤ℤ pos 0)
+pub search_above : (n k : ℕ) (v : Vector) → ((j : ℕ) × (j < n) × (j ≢ k) × (pos 0 <ℤ v j)) ⊎
+    ((j : ℕ) → j < n → j ≢ k → v j ≤ℤ pos 0)
 search_above zero k v = inr (λ j l. absurd (omega arith))
 search_above (suc n) k v =
     elim (search_above n k v) [
@@ -69,7 +71,8 @@ search_above (suc n) k v =
         | inl e ↦ inr (λ j l apart. none j (omega arith) apart)
         | inr away ↦ elim (sign (v n)) [
           | inl above ↦ inl (n, omega arith, away, above)
-          | inr flat ↦ inr (λ j l apart. elim (cases_eq j n) [ inl e ↦ subst (λ i. v i ≤ℤ pos 0) (sym e) flat | inr other ↦ none j (omega arith) apart ])
+          | inr flat ↦ inr (λ j l apart. elim (cases_eq j n)
+              [ inl e ↦ subst (λ i. v i ≤ℤ pos 0) (sym e) flat | inr other ↦ none j (omega arith) apart ])
         ]
       ]
     ]

@@ -1,4 +1,5 @@
--- A list that is not unclosed has the root pairs: each of its pairs was made from an earlier one, and which one can be found out.
+-- A list that is not unclosed has the root pairs: each of its pairs was made from an earlier one, and which one can be
+-- found out.
 use Rattle.std.proofs.Common.{◌≡◌, ℕ, zero, suc, ◌-◌, ◌<◌, ◌≤◌, arith, sym, ap, ◌∙◌, subst, inl, inr, ◌⊎◌, pos, ◌*ℤ◌, List, [], ◌∷◌, ◌++◌, length, get_or, length-append}
 use Rattle.std.proofs.Math.Path.{fun_ext}
 use Rattle.std.proofs.lemmas.Bool.{cases_eq}
@@ -29,7 +30,8 @@ simple_at zero i l = absurd (omega arith)
 simple_at (suc n) i l =
     elim (cases_eq i n) [
       | inl e ↦ last_at (simple_pairs n) (simple_pair n) i (e ∙ sym (length-simple_pairs n)) ∙ ap simple_pair (sym e)
-      | inr apart ↦ get_or_append_left (simple_pairs n) (simple_pair n ∷ []) (simple_pair 0) i (omega (arith, length-simple_pairs n)) ∙ simple_at n i (omega arith)
+      | inr apart ↦ get_or_append_left (simple_pairs n) (simple_pair n ∷ []) (simple_pair 0) i
+          (omega (arith, length-simple_pairs n)) ∙ simple_at n i (omega arith)
     ]
 
 -- ---- equality of pairs that are 0 past six places
@@ -38,8 +40,16 @@ same_pairs_decided q p q_past p_past =
     elim (all_below_decided (λ j. (q.root j ≡ p.root j) × (q.coroot j ≡ p.coroot j))
     (λ j. both_decided (same_integers (q.root j) (p.root j)) (same_integers (q.coroot j) (p.coroot j))) 6) [
       | inl all ↦ inl (same_pair q p
-          (fun_ext (λ j. elim (below_decided j 6) [ inl l ↦ (all j l).0 | inr out ↦ (q_past j (past j out)).0 ∙ sym (p_past j (past j out)).0 ]))
-          (fun_ext (λ j. elim (below_decided j 6) [ inl l ↦ (all j l).1 | inr out ↦ (q_past j (past j out)).1 ∙ sym (p_past j (past j out)).1 ])))
+          (fun_ext (λ j. elim (below_decided j 6) [
+            | inl l ↦ (all j l).0
+            | inr out ↦ (q_past j (past j out)).0
+                ∙ sym (p_past j (past j out)).0
+          ]))
+          (fun_ext (λ j. elim (below_decided j 6) [
+            | inl l ↦ (all j l).1
+            | inr out ↦ (q_past j (past j out)).1
+                ∙ sym (p_past j (past j out)).1
+          ])))
       | inr bad ↦ inr (λ e. bad (λ j l. (ap (λ (r : RootPair). r.root j) e, ap (λ (r : RootPair). r.coroot j) e)))
     ]
   where
@@ -53,7 +63,8 @@ module _ (m : CartanMatrix) (form : HasCartanForm m) where
   simple_is_zero_past : (k : ℕ) → k < m.rank → IsZeroPast 6 (simple_pair k)
   simple_is_zero_past k l = zero_past_six (simple_pair k) (simple_is_pair m k l)
 
-  moved_is_zero_past : (k : ℕ) → k < m.rank → (q : RootPair) → IsZeroPast 6 q → IsZeroPast 6 (mirrored m (simple_pair k) q)
+  moved_is_zero_past : (k : ℕ) → k < m.rank → (q : RootPair) → IsZeroPast 6 q →
+      IsZeroPast 6 (mirrored m (simple_pair k) q)
   moved_is_zero_past k l q h j out =
       let none : integer_unit k j ≡ pos 0 = unit_off k j (omega (arith, form.at_most_six)) in
       let before : (q.root j ≡ pos 0) × (q.coroot j ≡ pos 0) = h j out in (
@@ -68,16 +79,30 @@ module _ (m : CartanMatrix) (form : HasCartanForm m) where
       ⊎ ((p : ℕ) × (p < i) × ((l : ℕ) × (l < m.rank) × (at list i ≡ result_at m list p l)))
 
   reached : {list : List RootPair} → IsGrown m list → (i : ℕ) → i < length list → IsReached list i
-  reached start i l = let inside : i < m.rank = omega (arith, length-simple_pairs m.rank) in inl (inside, simple_at m.rank i inside)
+  reached start i l = let inside : i < m.rank = omega (arith, length-simple_pairs m.rank) in
+      inl (inside, simple_at m.rank i inside)
   reached (grown {list} q before next small one_sign room) i l =
       elim (cases_eq i (length list)) [
-        | inl e ↦ inr (next.place, omega (arith, next.place_below), (next.letter, next.letter_below, last_at list q i e ∙ next.is ∙ sym (kept next.place next.letter next.place_below)))
+        | inl e ↦ inr (
+          next.place,
+          omega (arith, next.place_below),
+          (
+            next.letter,
+            next.letter_below,
+            last_at list q i e ∙ next.is
+                ∙ sym (kept next.place next.letter next.place_below),
+          ),
+        )
         | inr apart ↦
             let inside : i < length list = omega (arith, length-append list (q ∷ [])) in
             let here : at (list ++ q ∷ []) i ≡ at list i = get_or_append_left list (q ∷ []) (simple_pair 0) i inside in
             elim (reached before i inside) [
               | inl r ↦ inl (r.0, here ∙ r.1)
-              | inr r ↦ inr (r.0, r.1, (r.2.0, r.2.1, here ∙ r.2.2 ∙ sym (kept r.0 r.2.0 (let below : r.0 < i = r.1 in omega arith))))
+              | inr r ↦ inr (
+                r.0,
+                r.1,
+                (r.2.0, r.2.1, here ∙ r.2.2 ∙ sym (kept r.0 r.2.0 (let below : r.0 < i = r.1 in omega arith))),
+              )
             ]
       ]
     where
@@ -87,8 +112,14 @@ module _ (m : CartanMatrix) (form : HasCartanForm m) where
   module _ (list : List RootPair) (closed : (IsClosed m list → ⊥) → ⊥) where
     zero_past_at : (i : ℕ) → i < length list → IsZeroPast 6 (at list i)
     zero_past_at i inside j out = (
-      stable (same_integers ((at list i).root j) (pos 0)) (λ never. closed (λ c. never (zero_past_six (at list i) (grown_pairs m c.0 (at list i) (member_at list i (simple_pair 0) inside)) j out).0)),
-      stable (same_integers ((at list i).coroot j) (pos 0)) (λ never. closed (λ c. never (zero_past_six (at list i) (grown_pairs m c.0 (at list i) (member_at list i (simple_pair 0) inside)) j out).1)),
+      stable (same_integers ((at list i).root j) (pos 0))
+          (λ never. closed (λ c. never
+          (zero_past_six (at list i) (grown_pairs m c.0 (at list i) (member_at list i (simple_pair 0) inside)) j
+          out).0)),
+      stable (same_integers ((at list i).coroot j) (pos 0))
+          (λ never. closed (λ c. never
+          (zero_past_six (at list i) (grown_pairs m c.0 (at list i) (member_at list i (simple_pair 0) inside)) j
+          out).1)),
     )
 
     zero_past : (q : RootPair) → Member q list → IsZeroPast 6 q
@@ -109,7 +140,8 @@ module _ (m : CartanMatrix) (form : HasCartanForm m) where
         first : Decided ((i < m.rank) × (at list i ≡ simple_pair i))
         first =
             elim (below_decided i m.rank) [
-              | inl l ↦ both_decided (inl l) (same_pairs_decided (at list i) (simple_pair i) (zero_past_at i inside) (simple_is_zero_past i l))
+              | inl l ↦ both_decided (inl l)
+                  (same_pairs_decided (at list i) (simple_pair i) (zero_past_at i inside) (simple_is_zero_past i l))
               | inr never ↦ inr (λ h. never h.0)
             ]
 
@@ -120,7 +152,8 @@ module _ (m : CartanMatrix) (form : HasCartanForm m) where
           | inl r ↦ subst (IsRootPair m) (sym r.1) (simple_is_pair m i r.0)
           | inr r ↦
               let before : r.0 < i = r.1 in
-              subst (IsRootPair m) (sym r.2.2) (moved_is_pair m r.2.0 (at list r.0) r.2.1 (pair_at n r.0 (omega arith) (omega arith)))
+              subst (IsRootPair m) (sym r.2.2)
+              (moved_is_pair m r.2.0 (at list r.0) r.2.1 (pair_at n r.0 (omega arith) (omega arith)))
         ]
 
     pub root_pairs_are : AreRootPairs m list
@@ -140,11 +173,17 @@ module _ (m : CartanMatrix) (form : HasCartanForm m) where
       at_most_72 = few;
       each_pair = root_pairs_are.all;
       small = λ q h j. (
-        stable (within_decided 32 (q.root j)) (λ never. closed (λ c. never (grown_small m c.0 q (closed_each m list c q h) j).0)),
-        stable (within_decided 32 (q.coroot j)) (λ never. closed (λ c. never (grown_small m c.0 q (closed_each m list c q h) j).1)),
+        stable (within_decided 32 (q.root j))
+            (λ never. closed (λ c. never (grown_small m c.0 q (closed_each m list c q h) j).0)),
+        stable (within_decided 32 (q.coroot j))
+            (λ never. closed (λ c. never (grown_small m c.0 q (closed_each m list c q h) j).1)),
       );
       one_sign = λ q h i j below above. closed (λ c. grown_one_sign m c.0 q (closed_each m list c q h) i j below above);
     }
       where
         few : length list ≤ 72
-        few = elim (below_decided (length list) 73) [ inl l ↦ omega arith | inr never ↦ absurd (closed (λ c. never (omega (arith, grown_within m form.at_most_six c.0)))) ]
+        few = elim (below_decided (length list) 73) [
+          | inl l ↦ omega arith
+          | inr never ↦ absurd
+              (closed (λ c. never (omega (arith, grown_within m form.at_most_six c.0))))
+        ]

@@ -50,6 +50,8 @@ BreaksFirst rows rank BadRank = HasShape rows rank → ⊥
 BreaksFirst rows rank (BadDiagonal i) = let m = matrix_of rows rank in
     HasShape rows rank × ((k : ℕ) × (i ≡ k + 1) × IsFirstRow m (HasTwo m) k)
 BreaksFirst rows rank (BadOffDiagonal i j) = let m = matrix_of rows rank in
-    HasShape rows rank × AllRows m (HasTwo m) × ((k l : ℕ) × (i ≡ k + 1) × (j ≡ l + 1) × IsFirstPlace m (IsInRange m) k l)
+    HasShape rows rank × AllRows m (HasTwo m) ×
+    ((k l : ℕ) × (i ≡ k + 1) × (j ≡ l + 1) × IsFirstPlace m (IsInRange m) k l)
 BreaksFirst rows rank (UnpairedZero i j) = let m = matrix_of rows rank in
-    HasShape rows rank × AllRows m (HasTwo m) × AllPlaces m (IsInRange m) × ((k l : ℕ) × (i ≡ k + 1) × (j ≡ l + 1) × IsFirstPlace m (HasPairedZero m) k l)
+    HasShape rows rank × AllRows m (HasTwo m) × AllPlaces m (IsInRange m) ×
+    ((k l : ℕ) × (i ≡ k + 1) × (j ≡ l + 1) × IsFirstPlace m (HasPairedZero m) k l)

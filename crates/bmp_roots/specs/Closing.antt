@@ -4,7 +4,8 @@
 --   result_at m list i k       what the simple reflection k makes of the pair at place i
 --   HasResultsBefore m list i k    the results before place i and letter k are in the list
 --   IsNext m list q            q is the first result that the list has not
---   IsGrown m list             the list begins with the simple pairs, and each further pair was the next result, which passed the tests
+--   IsGrown m list             the list begins with the simple pairs, and each further pair was the next result, which
+--                              passed the tests
 --   IsClosed m list            grown, and nothing is left to append
 use Rattle.std.specs.Prelude.{◌≡◌, ℕ, zero, suc, ◌<◌, ◌⊎◌, List, [], ◌∷◌, ◌++◌, length, slice_index_or}
 use Rattle.bmp_math.specs.Lists.{Member}

@@ -1,7 +1,8 @@
 -- What a `Roots` is seen as.
 --   matrix_of roots          the Cartan matrix
 --   list_of roots            the root pairs, in the order of the closure
---   positives roots          the pairs of the machine with a positive root, in that order: pair number i stands at place i
+--   positives roots          the pairs of the machine with a positive root, in that order: pair number i stands at
+--                            place i
 --   positive_roots_of roots  the positive roots, by their numbers
 use Rattle.std.specs.Prelude.{List, map}
 use Rattle.bmp_roots.specs.RootPairs.{CartanMatrix, Vector, RootPair}

@@ -1,9 +1,11 @@
 -- The laws of root pairs, as statements.
 --   RootsHaveOneCoroot            in a finite system two root pairs with one root are the same
---   RootsArePrimitive             no number from 2 on divides every coordinate of a root: so no root is 0 modulo a prime
+--   RootsArePrimitive             no number from 2 on divides every coordinate of a root: so no root is 0 modulo a
+--                                 prime
 --   ReflectionsKeepRootPairs      the reflection of a root pair sends root pairs to root pairs
 --   SimpleReflectionsPermute      a simple reflection permutes the positive root pairs other than its own
---   RootsHaveOneSign              in a finite system each root is positive or the negative of a positive vector, and not both
+--   RootsHaveOneSign              in a finite system each root is positive or the negative of a positive vector, and
+--                                 not both
 --   AtMost36ArePositive           a finite system has at most 36 positive roots
 use Rattle.std.specs.Prelude.{◌≡◌, ℕ, ◌<◌, ◌≤◌, ◌⊎◌, List, length, neg_ℤ}
 use Rattle.bmp_math.specs.Integers.{Divides}

@@ -7,8 +7,8 @@ ghost use Rattle.bmp_roots.specs.CartanRules.{matrix_of, HasShape, HasTwo, IsInR
 use std::marker::Model;
 use thiserror::Error;
 
-/// The first rule of a Cartan matrix that the rows break. Rows and columns are numbered from 1, and a rule is tried after
-/// the ones before it hold.
+/// The first rule of a Cartan matrix that the rows break. Rows and columns are numbered from 1, and a rule is tried
+/// after the ones before it hold.
 #[derive(Clone, Copy, Debug, PartialEq, Eq, Error)]
 pub enum CartanFault {
     /// The rank is not 1 to 6, or there are not rank times rank entries.

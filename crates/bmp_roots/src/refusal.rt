@@ -14,8 +14,8 @@ pub enum FiniteKind {
     Sign,
 }
 
-/// The first pair in the order of the closure that breaks a limit, and the first limit that it breaks: a coordinate, the
-/// sign, or the number of pairs. Root and coroot have six coordinates; those past the rank are 0.
+/// The first pair in the order of the closure that breaks a limit, and the first limit that it breaks: a coordinate,
+/// the sign, or the number of pairs. Root and coroot have six coordinates; those past the rank are 0.
 #[derive(Clone, Copy, Debug, PartialEq, Eq, Error)]
 #[error("a root pair breaks a limit, so the root system is not finite")]
 pub struct NotFinite {

@@ -9,8 +9,8 @@ use crate::closing::close_list;
 use crate::pair_list::PairList;
 use crate::refusal::NotFinite;
 
-/// A Cartan matrix with its root pairs, of which there are at most 72. The positive ones are numbered from 0, in the order of
-/// the closure.
+/// A Cartan matrix with its root pairs, of which there are at most 72. The positive ones are numbered from 0, in the
+/// order of the closure.
 #[derive(Debug, Drop)]
 pub struct Roots {
     cartan: Cartan,
@@ -57,9 +57,10 @@ impl Roots {
     ghost use Rattle.bmp_roots.specs.RootSystems.{matrix_of, list_of, positives, positive_roots_of};
     ghost use Rattle.bmp_roots.specs.declared.root_pair.Pair.{Pair};
 
-    /// The root pairs of the matrix: the simple pairs in order, and then, pair by pair and reflection by reflection, each result
-    /// that is not there yet. Each new pair is tested: no coordinate is larger than 32 in size, the root has not coordinates of
-    /// both signs, and there are fewer than 72 pairs before it. The first pair that fails a test is the error.
+    /// The root pairs of the matrix: the simple pairs in order, and then, pair by pair and reflection by reflection,
+    /// each result that is not there yet. Each new pair is tested: no coordinate is larger than 32 in size, the root
+    /// has not coordinates of both signs, and there are fewer than 72 pairs before it. The first pair that fails a test
+    /// is the error.
     pub fn close(cartan: &Cartan) -> Result<Roots, NotFinite>
         ensures matrix { IfOk result (λ roots. matrix_of roots ≡ cartan.now) }
         ensures list { IfOk result (λ roots. IsClosed cartan.now (list_of roots)) }

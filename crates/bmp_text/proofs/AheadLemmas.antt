@@ -12,14 +12,18 @@ state_after next s (x ∷ xs) = state_after next (next x s) xs
 
 pub spaced-append : (vs ws : List (List ℕ)) → spaced_words (vs ++ ws) ≡ spaced_words vs ++ spaced_words ws
 spaced-append [] ws = refl
-spaced-append (v ∷ vs) ws = ap (λ (t : List ℕ). (32 ∷ v) ++ t) (spaced-append vs ws) ∙ sym (append_assoc (32 ∷ v) (spaced_words vs) (spaced_words ws))
+spaced-append (v ∷ vs) ws = ap (λ (t : List ℕ). (32 ∷ v) ++ t) (spaced-append vs ws)
+    ∙ sym (append_assoc (32 ∷ v) (spaced_words vs) (spaced_words ws))
 
 module _ {A S : Type 0} (text : S → A → List (List ℕ)) (fits : S → A → Type 0) (next : A → S → S) where
-  chain_push : (s : S) (xs : List A) (x : A) → chain_text text next s (xs ++ x ∷ []) ≡ chain_text text next s xs ++ text (state_after next s xs) x
+  chain_push : (s : S) (xs : List A) (x : A) → chain_text text next s (xs ++ x ∷ []) ≡ chain_text text next s xs ++ text
+      (state_after next s xs) x
   chain_push s [] x = append-nil (text s x)
-  chain_push s (y ∷ xs) x = ap (λ (t : List (List ℕ)). text s y ++ t) (chain_push (next y s) xs x) ∙ sym (append_assoc (text s y) (chain_text text next (next y s) xs) (text (state_after next s (y ∷ xs)) x))
+  chain_push s (y ∷ xs) x = ap (λ (t : List (List ℕ)). text s y ++ t) (chain_push (next y s) xs x)
+      ∙ sym (append_assoc (text s y) (chain_text text next (next y s) xs) (text (state_after next s (y ∷ xs)) x))
 
-  fits_push : (s : S) (xs : List A) (x : A) → ChainFits fits next s xs → fits (state_after next s xs) x → ChainFits fits next s (xs ++ x ∷ [])
+  fits_push : (s : S) (xs : List A) (x : A) → ChainFits fits next s xs → fits (state_after next s xs) x →
+      ChainFits fits next s (xs ++ x ∷ [])
   fits_push s [] x h k = (k, tt)
   fits_push s (y ∷ xs) x h k = (h.0, fits_push (next y s) xs x h.1 k)
 
@@ -35,10 +39,12 @@ module _ {A S : Type 0} (text : S → A → List (List ℕ)) (fits : S → A →
   pub read_none : (from : S) (bytes : List ℕ) → HaveRead from [] from bytes bytes
   read_none from bytes = record { state = refl; each = tt; read = refl }
 
-  pub read_more : (from : S) (xs : List A) (s : S) (bytes mid rest : List ℕ) (x : A) → HaveRead from xs s bytes mid → fits s x → mid ≡ spaced_words (text s x) ++ rest → HaveRead from (xs ++ x ∷ []) (next x s) bytes rest
+  pub read_more : (from : S) (xs : List A) (s : S) (bytes mid rest : List ℕ) (x : A) → HaveRead from xs s bytes mid →
+      fits s x → mid ≡ spaced_words (text s x) ++ rest → HaveRead from (xs ++ x ∷ []) (next x s) bytes rest
   read_more from xs s bytes mid rest x h k is =
       let front = chain_text text next from xs in
-      let words : chain_text text next from (xs ++ x ∷ []) ≡ front ++ text s x = chain_push from xs x ∙ ap (λ (t : S). front ++ text t x) h.state in
+      let words : chain_text text next from (xs ++ x ∷ []) ≡ front ++ text s x =
+      chain_push from xs x ∙ ap (λ (t : S). front ++ text t x) h.state in
       record {
         state = state_push from xs x ∙ ap (next x) h.state;
         each = fits_push from xs x h.each (subst (λ (t : S). fits t x) (sym h.state) k);

@@ -12,14 +12,17 @@ use Rattle.std.proofs.lemmas.Int.Digits.{digits_value_more}
 tells : IsDigitsTest (λ ds. list_all is_ascii_digit ds ≡ true)
 tells = search rules
 
-pub digit_in : (ds : List ℕ) (i : ℕ) → list_all is_ascii_digit ds ≡ true → i < length ds → IsInRange 48 57 (get_or ds i 0)
+pub digit_in : (ds : List ℕ) (i : ℕ) → list_all is_ascii_digit ds ≡ true → i < length ds →
+    IsInRange 48 57 (get_or ds i 0)
 digit_in [] i h le = absurd (omega arith)
 digit_in (d ∷ ds) zero h le = (tells.parts d ds h).0
 digit_in (d ∷ ds) (suc i) h le = digit_in ds i (tells.parts d ds h).1 (omega arith)
 
 -- one digit more
-pub value_more : (ds : List ℕ) (i : ℕ) → list_all is_ascii_digit ds ≡ true → i < length ds → digits_value 10 (take (i + 1) ds) + 48 ≡ digits_value 10 (take i ds) * 10 + get_or ds i 0
-value_more ds i h le = omega (arith, digits_value_more 10 ds i le, digit_value_digit (get_or ds i 0) (digit_in ds i h le))
+pub value_more : (ds : List ℕ) (i : ℕ) → list_all is_ascii_digit ds ≡ true → i < length ds →
+    digits_value 10 (take (i + 1) ds) + 48 ≡ digits_value 10 (take i ds) * 10 + get_or ds i 0
+value_more ds i h le =
+    omega (arith, digits_value_more 10 ds i le, digit_value_digit (get_or ds i 0) (digit_in ds i h le))
 
 -- a front's value is no larger
 pub front_le : (ds : List ℕ) (i : ℕ) → digits_value 10 (take i ds) ≤ digits_value 10 ds

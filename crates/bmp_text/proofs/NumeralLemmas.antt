@@ -38,10 +38,14 @@ nonzero_long : (ds : List ℕ) → is_positive_numeral ds ≡ true → 0 < lengt
 nonzero_long [] h = absurd cc
 nonzero_long (d ∷ ds) h = omega arith
 
-pub nonzero_takes : (ds : List ℕ) → is_positive_numeral ds ≡ true → digits_value 10 ds < 2 ^ 64 → decimal (digits_value 10 ds) ≡ ds
-nonzero_takes ds h lt = decimal-digits_value own ds (nonzero_digits ds h) (nonzero_long ds h) (λ e. absurd (omega (arith, nonzero_first ds h))) lt
+pub nonzero_takes : (ds : List ℕ) → is_positive_numeral ds ≡ true → digits_value 10 ds < 2 ^ 64 →
+    decimal (digits_value 10 ds) ≡ ds
+nonzero_takes ds h lt =
+    decimal-digits_value own ds (nonzero_digits ds h) (nonzero_long ds h)
+    (λ e. absurd (omega (arith, nonzero_first ds h))) lt
 
-nonzero_from : (ds : List ℕ) → list_all is_ascii_digit ds ≡ true → 0 < length ds → 48 < get_or ds 0 0 → is_positive_numeral ds ≡ true
+nonzero_from : (ds : List ℕ) → list_all is_ascii_digit ds ≡ true → 0 < length ds → 48 < get_or ds 0 0 →
+    is_positive_numeral ds ≡ true
 nonzero_from [] h long first = absurd (omega arith)
 nonzero_from (d ∷ ds) h long first =
     let p = tells.parts d ds h in
@@ -51,7 +55,8 @@ nonzero_from (d ∷ ds) h long first =
     search rules
 
 pub nonzero_again : (n : ℕ) → 0 < n → n < 2 ^ 64 → is_positive_numeral (decimal n) ≡ true
-nonzero_again n more lt = nonzero_from (decimal n) (digits_decimal own n lt) (decimal_nonempty n lt) (first_decimal n more lt)
+nonzero_again n more lt =
+    nonzero_from (decimal n) (digits_decimal own n lt) (decimal_nonempty n lt) (first_decimal n more lt)
 
 -- ---- words
 
@@ -64,10 +69,13 @@ fits_neg n h = search rules
 some_is : {A : Type 0} (x y : A) → Some x ≡ Some y → x ≡ y
 some_is x y e = cc
 
-signed_takes : (minus : Bool) (ds : List ℕ) (z : ℤ) → signed_value minus ds ≡ Some z → fits_i64 z ≡ true → signed_decimal z ≡ cond minus (45 ∷ ds) ds
+signed_takes : (minus : Bool) (ds : List ℕ) (z : ℤ) → signed_value minus ds ≡ Some z → fits_i64 z ≡ true →
+    signed_decimal z ≡ cond minus (45 ∷ ds) ds
 signed_takes minus ds z e fits = go minus (is_positive_numeral ds) refl e
   where
-    go : (m t : Bool) → is_positive_numeral ds ≡ t → cond t (Some (cond m (negsuc (digits_value 10 ds - 1)) (pos (digits_value 10 ds)))) None ≡ Some z → signed_decimal z ≡ cond m (45 ∷ ds) ds
+    go : (m t : Bool) → is_positive_numeral ds ≡ t →
+        cond t (Some (cond m (negsuc (digits_value 10 ds - 1)) (pos (digits_value 10 ds)))) None ≡ Some z →
+        signed_decimal z ≡ cond m (45 ∷ ds) ds
     go true true h e =
         let is : negsuc (digits_value 10 ds - 1) ≡ z = some_is _ _ e in
         let low = nonzero_value ds h in
@@ -85,11 +93,15 @@ unfolding numeral_value
 spelled_takes [] z e fits = absurd cc
 spelled_takes (b ∷ bs) z e fits = go (eqb b 48) (eqb b 45) refl refl e
   where
-    zero_only : (ds : List ℕ) → b ≡ 48 → cond (eqb (length ds) 0) (Some (pos 0)) None ≡ Some z → signed_decimal z ≡ b ∷ ds
-    zero_only [] same e = let is : pos 0 ≡ z = some_is _ _ e in ap signed_decimal (sym is) ∙ (decimal_digit 0 (omega arith) ∙ ap (λ (t : ℕ). t ∷ []) (sym same))
+    zero_only : (ds : List ℕ) → b ≡ 48 → cond (eqb (length ds) 0) (Some (pos 0)) None ≡ Some z →
+        signed_decimal z ≡ b ∷ ds
+    zero_only [] same e = let is : pos 0 ≡ z = some_is _ _ e in ap signed_decimal (sym is)
+        ∙ (decimal_digit 0 (omega arith) ∙ ap (λ (t : ℕ). t ∷ []) (sym same))
     zero_only (d ∷ ds) same e = let k : eqb (length (d ∷ ds)) 0 ≡ false = search rules in let f = rw k at e in absurd cc
 
-    go : (t u : Bool) → eqb b 48 ≡ t → eqb b 45 ≡ u → cond t (cond (eqb (length bs) 0) (Some (pos 0)) None) (cond u (signed_value true bs) (signed_value false (b ∷ bs))) ≡ Some z → signed_decimal z ≡ b ∷ bs
+    go : (t u : Bool) → eqb b 48 ≡ t → eqb b 45 ≡ u →
+        cond t (cond (eqb (length bs) 0) (Some (pos 0)) None)
+        (cond u (signed_value true bs) (signed_value false (b ∷ bs))) ≡ Some z → signed_decimal z ≡ b ∷ bs
     go true u h k e = zero_only bs (eqb-true b 48 h) e
     go false true h k e = signed_takes true bs z e fits ∙ ap (λ (t : ℕ). t ∷ bs) (sym (eqb-true b 45 k))
     go false false h k e = signed_takes false (b ∷ bs) z e fits
@@ -103,7 +115,8 @@ positive_case (d ∷ ds) h =
     let b : eqb d 45 ≡ false = search rules in
     rw (a, b, h) refl
 
-negative_case : (w : List ℕ) → is_positive_numeral w ≡ true → numeral_value (45 ∷ w) ≡ Some (negsuc (digits_value 10 w - 1))
+negative_case : (w : List ℕ) → is_positive_numeral w ≡ true →
+    numeral_value (45 ∷ w) ≡ Some (negsuc (digits_value 10 w - 1))
 unfolding numeral_value
 negative_case w h = rw h refl
 
@@ -115,11 +128,14 @@ pub spelled_again : (z : ℤ) → fits_i64 z ≡ true → numeral_value (signed_
 spelled_again (pos zero) fits = ap numeral_value (decimal_digit 0 (omega arith)) ∙ zero_case
 spelled_again (pos (suc n)) fits =
     let small = fits_pos (suc n) fits in
-    positive_case (decimal (suc n)) (nonzero_again (suc n) (omega arith) (omega arith)) ∙ ap (λ (t : ℕ). Some (pos t)) (digits_value-decimal own (suc n) (omega arith))
+    positive_case (decimal (suc n)) (nonzero_again (suc n) (omega arith) (omega arith))
+    ∙ ap (λ (t : ℕ). Some (pos t)) (digits_value-decimal own (suc n) (omega arith))
 spelled_again (negsuc n) fits =
     let small = fits_neg n fits in
     let back : suc n - 1 ≡ n = omega arith in
-    negative_case (decimal (suc n)) (nonzero_again (suc n) (omega arith) (omega arith)) ∙ ap (λ (t : ℕ). Some (negsuc t)) (ap (λ (t : ℕ). t - 1) (digits_value-decimal own (suc n) (omega arith)) ∙ back)
+    negative_case (decimal (suc n)) (nonzero_again (suc n) (omega arith) (omega arith))
+    ∙ ap (λ (t : ℕ). Some (negsuc t)) (ap (λ (t : ℕ). t - 1) (digits_value-decimal own (suc n) (omega arith))
+    ∙ back)
 
 -- ---- plain words
 
@@ -132,4 +148,5 @@ plain_decimal n lt = plain_digits (decimal n) (digits_decimal own n lt)
 
 pub plain_signed : (z : ℤ) → fits_i64 z ≡ true → IsPlainWord (signed_decimal z)
 plain_signed (pos n) fits = let small = fits_pos n fits in plain_decimal n (omega arith)
-plain_signed (negsuc n) fits = let small = fits_neg n fits in ((omega arith, omega arith), plain_decimal (suc n) (omega arith))
+plain_signed (negsuc n) fits = let small = fits_neg n fits in
+    ((omega arith, omega arith), plain_decimal (suc n) (omega arith))

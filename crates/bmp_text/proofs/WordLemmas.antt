@@ -8,7 +8,9 @@ use Rattle.bmp_text.specs.Words.{cut, cut_with, words, words_of, words_with, is_
 
 -- ---- by cuts
 
-cut_case : (t : Bool) (b : ℕ) (bs : List ℕ) → words bs ≡ (cut 32 bs).0 ∷ words_of (cut 32 bs).1 → cond t ([] ∷ words bs) (words_with b (words bs)) ≡ (cond t ([], Some bs) (cut_with b (cut 32 bs))).0 ∷ words_of (cond t ([], Some bs) (cut_with b (cut 32 bs))).1
+cut_case : (t : Bool) (b : ℕ) (bs : List ℕ) → words bs ≡ (cut 32 bs).0 ∷ words_of (cut 32 bs).1 →
+    cond t ([] ∷ words bs) (words_with b (words bs)) ≡ (cond t ([], Some bs) (cut_with b (cut 32 bs))).0 ∷ words_of
+    (cond t ([], Some bs) (cut_with b (cut 32 bs))).1
 cut_case true b bs so_far = refl
 cut_case false b bs so_far = ap (words_with b) so_far
 
@@ -26,7 +28,8 @@ longer_joined b (w ∷ ws) = refl
 spaced-words : (bs : List ℕ) → spaced_words (words bs) ≡ 32 ∷ joined_words (words bs)
 spaced-words bs = rw (words_cut bs) refl
 
-joined_case : (t : Bool) (b : ℕ) (bs : List ℕ) → eqb b 32 ≡ t → joined_words (words bs) ≡ bs → joined_words (cond t ([] ∷ words bs) (words_with b (words bs))) ≡ b ∷ bs
+joined_case : (t : Bool) (b : ℕ) (bs : List ℕ) → eqb b 32 ≡ t → joined_words (words bs) ≡ bs →
+    joined_words (cond t ([] ∷ words bs) (words_with b (words bs))) ≡ b ∷ bs
 joined_case true b bs h so_far = spaced-words bs ∙ ap₂ (λ (x : ℕ) (y : List ℕ). x ∷ y) (sym (eqb-true b 32 h)) so_far
 joined_case false b bs h so_far = longer_joined b (words bs) ∙ ap (λ y. b ∷ y) so_far
 
@@ -66,9 +69,11 @@ plain_front (b ∷ w) s ws h e = rw (no_space b h.0) (ap (words_with b) (plain_f
 words_spaced : (ws : List (List ℕ)) → AllByRecursion IsPlainWord ws → words (spaced_words ws) ≡ [] ∷ ws
 unfolding words
 words_spaced [] h = refl
-words_spaced (w ∷ ws) h = ap (λ (t : List (List ℕ)). [] ∷ t) (plain_front w (spaced_words ws) ws h.0 (words_spaced ws h.1))
+words_spaced (w ∷ ws) h =
+    ap (λ (t : List (List ℕ)). [] ∷ t) (plain_front w (spaced_words ws) ws h.0 (words_spaced ws h.1))
 
-pub words_again : (w : List ℕ) (ws : List (List ℕ)) → IsPlainWord w → AllByRecursion IsPlainWord ws → words (w ++ spaced_words ws) ≡ w ∷ ws
+pub words_again : (w : List ℕ) (ws : List (List ℕ)) → IsPlainWord w → AllByRecursion IsPlainWord ws →
+    words (w ++ spaced_words ws) ≡ w ∷ ws
 words_again w ws h hs = plain_front w (spaced_words ws) ws h (words_spaced ws hs)
 
 -- ---- printable bytes
@@ -76,7 +81,8 @@ words_again w ws h hs = plain_front w (spaced_words ws) ws h (words_spaced ws hs
 abbrev pub IsPrinted : ℕ → Type 0
 IsPrinted b = (31 < b) × (b < 127)
 
-pub all_append : {A : Type 0} (P : A → Type 0) (xs ys : List A) → AllByRecursion P xs → AllByRecursion P ys → AllByRecursion P (xs ++ ys)
+pub all_append : {A : Type 0} (P : A → Type 0) (xs ys : List A) → AllByRecursion P xs → AllByRecursion P ys →
+    AllByRecursion P (xs ++ ys)
 all_append P [] ys h k = k
 all_append P (x ∷ xs) ys h k = (h.0, all_append P xs ys h.1 k)
 
@@ -86,9 +92,11 @@ printed_word (b ∷ w) h = ((omega arith, h.0.1), printed_word w h.1)
 
 printed_spaced : (ws : List (List ℕ)) → AllByRecursion IsPlainWord ws → AllByRecursion IsPrinted (spaced_words ws)
 printed_spaced [] h = tt
-printed_spaced (w ∷ ws) h = ((omega arith, omega arith), all_append IsPrinted w (spaced_words ws) (printed_word w h.0) (printed_spaced ws h.1))
+printed_spaced (w ∷ ws) h =
+    ((omega arith, omega arith), all_append IsPrinted w (spaced_words ws) (printed_word w h.0) (printed_spaced ws h.1))
 
-pub printed_line : (w : List ℕ) (ws : List (List ℕ)) → IsPlainWord w → AllByRecursion IsPlainWord ws → AllByRecursion IsPrinted (w ++ spaced_words ws)
+pub printed_line : (w : List ℕ) (ws : List (List ℕ)) → IsPlainWord w → AllByRecursion IsPlainWord ws →
+    AllByRecursion IsPrinted (w ++ spaced_words ws)
 printed_line w ws h hs = all_append IsPrinted w (spaced_words ws) (printed_word w h) (printed_spaced ws hs)
 
 no_feed : (b : ℕ) → IsPrinted b → (b == 10) ≡ false

@@ -56,7 +56,10 @@ place_behind p size = record { line = p.line + 1; start = p.start + size + 1; st
 abbrev pub line_cut : Place → List ℕ × Option (List ℕ) → Result (Cursor (List ℕ) × Cursor ℕ) TextFault
 line_cut p (line, None) = fault p MissingLine
 line_cut p (line, Some rest) = if list_any is_unprintable line then fault p NotAscii
-    else Ok (record { place = line_place p (length line); rest = words line }, record { place = place_behind p (length line); rest = rest })
+    else Ok (
+      record { place = line_place p (length line); rest = words line },
+      record { place = place_behind p (length line); rest = rest },
+    )
 
 abbrev pub next_line : Cursor ℕ → Result (Cursor (List ℕ) × Cursor ℕ) TextFault
 next_line c = line_cut c.place (cut 10 c.rest)

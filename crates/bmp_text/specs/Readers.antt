@@ -12,7 +12,8 @@ use Rattle.std.specs.Prelude.{Result, Ok, List, [], ◌∷◌, ◌++◌, ℕ, ze
 use Rattle.bmp_text.specs.declared.fault.TextFault.{TextFault}
 use Rattle.bmp_text.specs.Cursor.{Cursor, text_start, ◌>>=◌, next_line, keyword, natural, finish, end}
 
-abbrev pub after : {I A B : Type 0} → (Cursor I → Result (A × Cursor I) TextFault) → (A → Cursor I → Result (B × Cursor I) TextFault) → Cursor I → Result (B × Cursor I) TextFault
+abbrev pub after : {I A B : Type 0} → (Cursor I → Result (A × Cursor I) TextFault) →
+    (A → Cursor I → Result (B × Cursor I) TextFault) → Cursor I → Result (B × Cursor I) TextFault
 after step then c = step c >>= λ x. then x.0 x.1
 
 abbrev pub give : {I B : Type 0} → B → Cursor I → Result (B × Cursor I) TextFault
@@ -23,7 +24,8 @@ nothing l = Ok (tt, l)
 
 -- ---- many items
 
-unfoldable pub chain : {I A S : Type 0} → (S → Cursor I → Result (A × Cursor I) TextFault) → (A → S → S) → ℕ → S → Cursor I → Result (List A × Cursor I) TextFault
+unfoldable pub chain : {I A S : Type 0} → (S → Cursor I → Result (A × Cursor I) TextFault) → (A → S → S) → ℕ → S →
+    Cursor I → Result (List A × Cursor I) TextFault
 chain step next zero s c = Ok ([], c)
 chain step next (suc n) s c = do
   first ← step s c
@@ -34,7 +36,8 @@ chain step next (suc n) s c = do
 abbrev pub same : {A : Type 0} → A → Unit {0} → Unit {0}
 same x s = s
 
-unfoldable pub counted_chain : {A S : Type 0} → ℕ → (S → Cursor (List ℕ) → Result (A × Cursor (List ℕ)) TextFault) → (A → S → S) → S → Cursor (List ℕ) → Result (List A × Cursor (List ℕ)) TextFault
+unfoldable pub counted_chain : {A S : Type 0} → ℕ → (S → Cursor (List ℕ) → Result (A × Cursor (List ℕ)) TextFault) →
+    (A → S → S) → S → Cursor (List ℕ) → Result (List A × Cursor (List ℕ)) TextFault
 counted_chain most step next s l = do
   count ← natural 0 most l
   items ← chain step next count.0 s count.1
@@ -42,7 +45,8 @@ counted_chain most step next s l = do
 
 -- ---- lines and texts
 
-unfoldable pub line : {A : Type 0} → List ℕ → (Cursor (List ℕ) → Result (A × Cursor (List ℕ)) TextFault) → Cursor ℕ → Result (A × Cursor ℕ) TextFault
+unfoldable pub line : {A : Type 0} → List ℕ → (Cursor (List ℕ) → Result (A × Cursor (List ℕ)) TextFault) → Cursor ℕ →
+    Result (A × Cursor ℕ) TextFault
 line word body c = do
   parts ← next_line c
   ws ← keyword word parts.0

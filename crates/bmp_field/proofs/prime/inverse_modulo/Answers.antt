@@ -8,7 +8,8 @@ use Rattle.bmp_field.proofs.prime.inverse_modulo.Goals as goal
 inverse_positive : (p a m : ℕ) → (a * m) % p ≡ 1 → 1 ≤ m
 inverse_positive p a m h =
     elim (cases_eq m 0) [
-      | inl none ↦ let product : a * m ≡ 0 = rw none (omega arith) in absurd (let bad : 0 ≡ 1 = sym (zero-mod p) ∙ (rw product at h) in omega arith)
+      | inl none ↦ let product : a * m ≡ 0 = rw none (omega arith) in
+          absurd (let bad : 0 ≡ 1 = sym (zero-mod p) ∙ (rw product at h) in omega arith)
       | inr some ↦ omega arith
     ]
 
@@ -33,5 +34,7 @@ pub loop-b-preserved : goal.loop-b-preserved
 loop-b-preserved c =
     let m = c.loop-b.invariant in
     let other : (c.args.a * c.loop-b.b) % c.args.p ≡ 1 → ⊥ =
-    λ e. c.loop-b-test.true (same_remainder _ _ _ c.args.a c.loop-b.b c.args.p c.from.ensures c.from-in-loop-b.ensures c.from-in-loop-b-2.ensures e) in
+    λ e. c.loop-b-test.true
+    (same_remainder _ _ _ c.args.a c.loop-b.b c.args.p c.from.ensures c.from-in-loop-b.ensures
+    c.from-in-loop-b-2.ensures e) in
     (m.0, m.1, m.2, still_below c.args.p c.args.a c.loop-b.b m.0 m.2 m.3 other)

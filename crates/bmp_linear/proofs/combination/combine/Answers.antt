@@ -16,11 +16,15 @@ loop-entry-init g c = λ j l. c.clear.ensures j (search rules) ∙ entry_sum_non
 
 pub loop-entry-preserved : goal.loop-entry-preserved
 loop-entry-preserved g c = λ j l.
-    entry_sum_step (g.F.Field.size c.args.f.now) c.entries-entry-items.result.now c.loop-entry.entry-index _ (λ i. (g.A.Rows.matrix c.args.a.now).entry i j) _ _ _ _
-    c.loop-entry-test.true (c.loop-entry.invariant j l) (c.from_num-factor.ensures.number ∙ c.from.ensures) refl (c.add_row_to.ensures.added j l)
+    entry_sum_step (g.F.Field.size c.args.f.now) c.entries-entry-items.result.now c.loop-entry.entry-index _
+    (λ i. (g.A.Rows.matrix c.args.a.now).entry i j) _ _ _ _
+    c.loop-entry-test.true (c.loop-entry.invariant j l) (c.from_num-factor.ensures.number ∙ c.from.ensures) refl
+    (c.add_row_to.ensures.added j l)
 
 pub returns : goal.returns
 returns g c = λ j l.
     let a = g.A.Rows.matrix c.args.a.now in
     let items = c.entries-entry-items.ensures.items in
-    rw (← items) (entry_sum_all (g.F.Field.size c.args.f.now) c.entries-entry-items.result.now c.loop-entry.entry-index a.rows (λ i. a.entry i j) _ c.loop-entry-test.false c.entries-entry-items.ensures.sparse.rising (rw items c.requires.fits) (c.loop-entry.invariant j l))
+    rw (← items) (entry_sum_all (g.F.Field.size c.args.f.now) c.entries-entry-items.result.now c.loop-entry.entry-index
+    a.rows (λ i. a.entry i j) _ c.loop-entry-test.false c.entries-entry-items.ensures.sparse.rising
+    (rw items c.requires.fits) (c.loop-entry.invariant j l))

@@ -4,4 +4,5 @@ use Rattle.bmp_linear.proofs.entries.add_entries.Given as goal
 
 -- the entries so far are added
 abbrev pub invariant-loop-entry : goal.invariant-loop-entry
-invariant-loop-entry g l = AddsEntries (g.F.Field.size l.f) (g.F.Field.num l.f l.c) (take l.entry-index l.entries) l.fn.sums l.sums
+invariant-loop-entry g l =
+    AddsEntries (g.F.Field.size l.f) (g.F.Field.num l.f l.c) (take l.entry-index l.entries) l.fn.sums l.sums

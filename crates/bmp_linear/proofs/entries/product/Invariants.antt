@@ -10,4 +10,5 @@ invariant-loop-entry g l =
     (g.F.Field.is_value l.f l.sum)
     × (g.F.Field.num l.f l.sum ≡ entry_sum (take l.entry-index l.row) (number_at l.vector) % g.F.Field.size l.f)
     × (l.next ≤ length l.vector)
-    × ((d : Entry) → l.entry-index < length l.row → FitsBelow (take l.next l.vector) (get_or l.row l.entry-index d).place)
+    × ((d : Entry) → l.entry-index < length l.row →
+    FitsBelow (take l.next l.vector) (get_or l.row l.entry-index d).place)

@@ -6,4 +6,5 @@ use Rattle.bmp_linear.proofs.entries.value_of.Given as goal
 abbrev pub invariant-loop-entry : goal.invariant-loop-entry
 invariant-loop-entry g l =
     (g.F.Field.is_value l.f l.sum)
-    × (g.F.Field.num l.f l.sum ≡ entry_sum (take l.entry-index l.entries) (λ j. get_or l.numbers j 0) % g.F.Field.size l.f)
+    × (g.F.Field.num l.f l.sum ≡ entry_sum (take l.entry-index l.entries) (λ j. get_or l.numbers j 0)
+    % g.F.Field.size l.f)

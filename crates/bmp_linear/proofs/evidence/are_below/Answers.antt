@@ -8,6 +8,7 @@ use Rattle.bmp_linear.proofs.evidence.are_below.Goals as goal
 pub returns : goal.returns
 returns c = (
   λ h. subst (λ (vs : List (List Entry)). All (λ v. ValuesBelow v c.args.p) vs) c.as_slice-vector-items.ensures.items
-      (all_from_index (λ (v : List Entry). ValuesBelow v c.args.p) c.as_slice-vector-items.result.now c.loop-vector.vector-index [] c.loop-vector-test.false c.loop-vector.invariant),
+      (all_from_index (λ (v : List Entry). ValuesBelow v c.args.p) c.as_slice-vector-items.result.now
+      c.loop-vector.vector-index [] c.loop-vector-test.false c.loop-vector.invariant),
   λ below. refl,
 )

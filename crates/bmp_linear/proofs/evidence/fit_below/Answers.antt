@@ -8,6 +8,7 @@ use Rattle.bmp_linear.proofs.evidence.fit_below.Goals as goal
 pub returns : goal.returns
 returns c = (
   λ h. subst (λ (vs : List (List Entry)). All (λ v. FitsBelow v c.args.n) vs) c.as_slice-vector-items.ensures.items
-      (all_from_index (λ (v : List Entry). FitsBelow v c.args.n) c.as_slice-vector-items.result.now c.loop-vector.vector-index [] c.loop-vector-test.false c.loop-vector.invariant),
+      (all_from_index (λ (v : List Entry). FitsBelow v c.args.n) c.as_slice-vector-items.result.now
+      c.loop-vector.vector-index [] c.loop-vector-test.false c.loop-vector.invariant),
   λ fits. refl,
 )

@@ -16,15 +16,19 @@ returns-then-place-least c = (
       let read = subst (RisesBelow c.args.n) (sym c.as_slice-place-items.ensures.items) rises in
       absurd (elim c.then-place-least.branch [
         | then-place-least-via-then-place-least w ↦
-            too_low c.as_slice-place-items.result.now c.args.n c.loop-place.place-index c.loop-place.least c.loop-place-test.true c.loop-place.invariant w.if-place-least.true read
+            too_low c.as_slice-place-items.result.now c.args.n c.loop-place.place-index c.loop-place.least
+            c.loop-place-test.true c.loop-place.invariant w.if-place-least.true read
         | then-place-least-via-else-place-least+then-place-n w ↦
-            too_high c.as_slice-place-items.result.now c.args.n c.loop-place.place-index c.loop-place-test.true w.if-place-n.true read
+            too_high c.as_slice-place-items.result.now c.args.n c.loop-place.place-index c.loop-place-test.true
+            w.if-place-n.true read
       ]),
 )
 
 pub returns : goal.returns
 unfolding RisesBelow
 returns c = (
-  λ h. subst (RisesBelow c.args.n) c.as_slice-place-items.ensures.items (rises_all c.as_slice-place-items.result.now c.args.n c.loop-place.place-index c.loop-place.least c.loop-place-test.false c.loop-place.invariant),
+  λ h. subst (RisesBelow c.args.n) c.as_slice-place-items.ensures.items
+      (rises_all c.as_slice-place-items.result.now c.args.n c.loop-place.place-index c.loop-place.least
+      c.loop-place-test.false c.loop-place.invariant),
   λ rises. refl,
 )

@@ -9,4 +9,5 @@ invariant-loop-index g l = PassBefore l.index (KernelCompares (g.F.Field.size l.
 
 -- the combinations so far passed
 abbrev pub invariant-loop-index-2 : goal.invariant-loop-index-2
-invariant-loop-index-2 g l = PassBefore (length l.e.basis + l.index) (KernelCompares (g.F.Field.size l.f) (g.A.Rows.matrix l.a) l.e)
+invariant-loop-index-2 g l =
+    PassBefore (length l.e.basis + l.index) (KernelCompares (g.F.Field.size l.f) (g.A.Rows.matrix l.a) l.e)

@@ -6,4 +6,5 @@ use Rattle.bmp_linear.proofs.kernel.check_zero.Given as goal
 
 -- the rows so far say 0
 abbrev pub invariant-loop-i : goal.invariant-loop-i
-invariant-loop-i g l = PassBelow (length l.e.basis + l.i) (WithIndex l.index (ComparesZero (g.F.Field.size l.f) (g.A.Rows.matrix l.a) l.e))
+invariant-loop-i g l =
+    PassBelow (length l.e.basis + l.i) (WithIndex l.index (ComparesZero (g.F.Field.size l.f) (g.A.Rows.matrix l.a) l.e))

@@ -4,4 +4,5 @@ use Rattle.bmp_linear.proofs.kernel.mark.Given as goal
 
 -- the places so far are marked
 abbrev pub invariant-loop-place : goal.invariant-loop-place
-invariant-loop-place l = (j : ℕ) → j < length l.marks → get_or l.marks j 0 ≡ cond (has_place (take l.place-index l.place-items) j) 1 0
+invariant-loop-place l =
+    (j : ℕ) → j < length l.marks → get_or l.marks j 0 ≡ cond (has_place (take l.place-index l.place-items) j) 1 0

@@ -5,4 +5,7 @@ use Rattle.bmp_poly.proofs.monomials.count.Goals as goal
 pub returns : goal.returns
 returns c =
     let number = c.before-2.ensures ∙ count_is_before c.args.rank c.args.degree c.requires.some in
-    record { number = number; most = omega (arith, number, count_small c.args.rank c.args.degree c.requires.rank c.requires.degree) }
+    record {
+      number = number;
+      most = omega (arith, number, count_small c.args.rank c.args.degree c.requires.rank c.requires.degree);
+    }

@@ -10,14 +10,18 @@ loop-k-preserved c =
     record {
       long = length-set c.loop-k.product c.loop-k.k sum ∙ long;
       done = λ j below. elim (cases_eq c.loop-k.k j) [
-        | inl here ↦ rw (← here) (get_or-set_same c.loop-k.product c.loop-k.k sum 0 (omega arith) ∙ ap (λ z. z + get_or c.args.n.now c.loop-k.k 0) (c.loop-k.invariant.left c.loop-k.k (omega arith)))
-        | inr other ↦ get_or-set_other c.loop-k.product c.loop-k.k j sum 0 (omega arith) ∙ c.loop-k.invariant.done j (omega arith)
+        | inl here ↦ rw (← here) (get_or-set_same c.loop-k.product c.loop-k.k sum 0 (omega arith)
+            ∙ ap (λ z. z + get_or c.args.n.now c.loop-k.k 0) (c.loop-k.invariant.left c.loop-k.k (omega arith)))
+        | inr other ↦ get_or-set_other c.loop-k.product c.loop-k.k j sum 0 (omega arith)
+            ∙ c.loop-k.invariant.done j (omega arith)
       ];
-      left = λ j past. get_or-set_other c.loop-k.product c.loop-k.k j sum 0 (omega arith) ∙ c.loop-k.invariant.left j (omega arith);
+      left = λ j past. get_or-set_other c.loop-k.product c.loop-k.k j sum 0 (omega arith)
+          ∙ c.loop-k.invariant.left j (omega arith);
     }
 
 pub returns : goal.returns
 returns c =
     let first : length c.args.m.now ≡ 6 = search rules in
     let second : length c.args.n.now ≡ 6 = search rules in
-    joined_written c.args.m.now c.args.n.now c.loop-k.product first second c.loop-k.invariant.long (λ k l. c.loop-k.invariant.done k (omega arith))
+    joined_written c.args.m.now c.args.n.now c.loop-k.product first second c.loop-k.invariant.long
+    (λ k l. c.loop-k.invariant.done k (omega arith))

@@ -34,12 +34,15 @@ pieces-preserved g c =
     let rest : List ℕ = drop (length (take c.pieces.filled items ++ (piece ++ more))) items in
     let size : length items ≡ c.make_room.new.bytes.len = omega (arith, c.make_room.new.bytes.ok.0) in
     let front : c.pieces.filled < length items = omega (arith, size, c.in_ok-make_room.ensures.room) in
-    let room : c.pieces.filled + length piece ≡ length items = omega (arith, front, c.slice_mut.ensures.len, c.read.auto.buf) in
+    let room : c.pieces.filled + length piece ≡ length items =
+    omega (arith, front, c.slice_mut.ensures.len, c.read.auto.buf) in
     record {
       within = omega arith;
-      room = rw (length-written items piece more rest c.pieces.filled c.make_room.new.bytes.len (omega arith) size (omega arith))
+      room = rw (length-written items piece more rest c.pieces.filled c.make_room.new.bytes.len (omega arith) size
+          (omega arith))
           (omega (arith, c.in_ok-n.ensures.within, room));
-      most = rw (length-written items piece more rest c.pieces.filled c.make_room.new.bytes.len (omega arith) size (omega arith))
+      most = rw (length-written items piece more rest c.pieces.filled c.make_room.new.bytes.len (omega arith) size
+          (omega arith))
           (omega (arith, c.make_room.ensures.most));
       later = omega (arith, c.in_ok-n.ensures.later);
       passes =

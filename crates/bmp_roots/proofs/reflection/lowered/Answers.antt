@@ -12,4 +12,5 @@ returns c =
     let new : SFits w16 c.difference.result = search rules in
     let inside : c.args.k < length c.args.v.now = omega (arith, c.told-v, c.requires.place) in
     lowered_is c.args.v.now c.args.k _ c.args.value inside
-    (to_z-of_z w16 c.difference.result new ∙ c.difference.ensures ∙ ap₂ (λ x y. x -ℤ y) (to_z-of_z w16 _ old) (to_z-of_z w32 c.args.value value))
+    (to_z-of_z w16 c.difference.result new ∙ c.difference.ensures
+    ∙ ap₂ (λ x y. x -ℤ y) (to_z-of_z w16 _ old) (to_z-of_z w32 c.args.value value))

@@ -7,4 +7,5 @@ use Rattle.bmp_roots.proofs.reflection.row_value.Given as goal
 
 abbrev pub invariant-loop-j : goal.invariant-loop-j
 invariant-loop-j l =
-    (l.sum ≡ integer_sum (λ j. entry l.cartan l.k j *ℤ coordinates l.v j) l.j) × IsWithin (1024 * l.j) l.sum × (l.rank ≡ l.cartan.rank) × (l.rank ≤ 6)
+    (l.sum ≡ integer_sum (λ j. entry l.cartan l.k j *ℤ coordinates l.v j) l.j) × IsWithin (1024 * l.j) l.sum ×
+    (l.rank ≡ l.cartan.rank) × (l.rank ≤ 6)

@@ -10,9 +10,11 @@ pub loop-pair-preserved : goal.loop-pair-preserved
 loop-pair-preserved c =
     elim c.if-is_positive.branch [
       | then-is_positive w ↦
-          positive_pushed _ c.as_slice-items.result.now c.loop-pair.pair-index _ _ _ _ c.loop-pair-test.true c.is_positive.ensures w.if-is_positive.true c.loop-pair.invariant
+          positive_pushed _ c.as_slice-items.result.now c.loop-pair.pair-index _ _ _ _ c.loop-pair-test.true
+          c.is_positive.ensures w.if-is_positive.true c.loop-pair.invariant
           (w.positive-is ∙ w.push.ensures)
       | else-is_positive w ↦
-          positive_skipped _ c.as_slice-items.result.now c.loop-pair.pair-index _ _ _ _ c.loop-pair-test.true c.is_positive.ensures w.if-is_positive.false c.loop-pair.invariant
+          positive_skipped _ c.as_slice-items.result.now c.loop-pair.pair-index _ _ _ _ c.loop-pair-test.true
+          c.is_positive.ensures w.if-is_positive.false c.loop-pair.invariant
           w.positive-is
     ]

@@ -4,4 +4,5 @@ use Rattle.bmp_text.specs.Numerals.{is_positive_numeral}
 use Rattle.bmp_text.proofs.number.signed_value.Goals as goal
 
 pub negative-requires : goal.negative-requires
-negative-requires c = let h : is_positive_numeral c.args.digits.now ≡ true = search rules in omega (arith, c.in-Some.ensures, nonzero_value c.args.digits.now h)
+negative-requires c = let h : is_positive_numeral c.args.digits.now ≡ true = search rules in
+    omega (arith, c.in-Some.ensures, nonzero_value c.args.digits.now h)

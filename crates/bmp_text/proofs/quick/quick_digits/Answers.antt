@@ -16,7 +16,13 @@ digits-preserved c =
     let one : IsInRange 48 57 (get_or bs i 0) = search rules in
     record {
       digits = digits_on bs i lt v.digits one;
-      value = omega (arith, digits_value_more 10 bs i lt, c.from.ensures, v.value, digit_value_digit (get_or bs i 0) one);
+      value = omega (
+        arith,
+        digits_value_more 10 bs i lt,
+        c.from.ensures,
+        v.value,
+        digit_value_digit (get_or bs i 0) one,
+      );
       small = omega (arith, c.from.ensures);
       within = omega arith;
     }
@@ -31,4 +37,5 @@ returns-clause-digits c =
       | then-size-gt1 w ↦ absurd (search (rules, w.value-is))
       | else-size-gt1 w ↦ omega (arith, w.if-size-gt1.false)
     ] in
-    digits_first bs i c.digits.n some v.within v.digits v.value v.small lead ∙ ap (λ t. decimal c.digits.n ++ t) (sym c.split_at.ensures.back)
+    digits_first bs i c.digits.n some v.within v.digits v.value v.small lead
+    ∙ ap (λ t. decimal c.digits.n ++ t) (sym c.split_at.ensures.back)

@@ -15,7 +15,8 @@ loop-word-preserved c =
     omega (arith, joined.as_long, mul-add-lt c.args.from b.words c.loop-word.word b.size (omega arith) below) in (
       c.loop-word.invariant.0,
       c.loop-word.invariant.1,
-      IsJoined_more b.bits.items _ b.words c.args.row c.args.from c.loop-word.word _ joined c.requires.apart below row_within
+      IsJoined_more b.bits.items _ b.words c.args.row c.args.from c.loop-word.word _ joined c.requires.apart below
+          row_within
           (ap₂ bit_or (get_or_read c.loop-word.self.bits.items _ _ row_within c.index_mut.ensures.value 0)
           (get_or_read c.loop-word.self.bits.items _ _ from_within c.index.ensures 0)),
     )
@@ -26,5 +27,7 @@ returns-clause-bits c =
     let b = c.args.self.now in
     let joined : IsJoined b.bits.items c.loop-word.self.bits.items b.words c.args.row c.args.from b.words =
     let word_is : c.loop-word.word ≡ b.words = omega arith in
-    subst (λ w. IsJoined b.bits.items c.loop-word.self.bits.items b.words c.args.row c.args.from w) word_is c.loop-word.invariant.2 in
-    rw c.loop-word.invariant.1 (bit_merged b.bits.items c.loop-word.self.bits.items b.words c.args.row c.args.from x y joined (omega arith))
+    subst (λ w. IsJoined b.bits.items c.loop-word.self.bits.items b.words c.args.row c.args.from w) word_is
+    c.loop-word.invariant.2 in
+    rw c.loop-word.invariant.1
+    (bit_merged b.bits.items c.loop-word.self.bits.items b.words c.args.row c.args.from x y joined (omega arith))

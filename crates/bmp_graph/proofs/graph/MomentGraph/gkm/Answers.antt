@@ -5,11 +5,14 @@ use Rattle.bmp_graph.proofs.GkmLemmas.{HasGkm-pairs, IsFirstParallelPair-at}
 use Rattle.bmp_graph.proofs.graph.MomentGraph.gkm.Goals as goal
 
 pub loop-x-preserved : goal.loop-x-preserved
-loop-x-preserved c = below_more (λ w. (b : ℕ) → HasNoPartner c.args.self.now w b) c.loop-x.x c.loop-x.invariant c.in_ok-gkm_at.ensures.holds
+loop-x-preserved c =
+    below_more (λ w. (b : ℕ) → HasNoPartner c.args.self.now w b) c.loop-x.x c.loop-x.invariant
+    c.in_ok-gkm_at.ensures.holds
 
 pub returns-clause-holds : goal.returns-clause-holds
 returns-clause-holds c =
-    HasGkm-pairs _ c.vertices-x-end.ensures.graph (λ x h. c.loop-x.invariant x (omega (arith, c.vertices-x-end.ensures.count)))
+    HasGkm-pairs _ c.vertices-x-end.ensures.graph
+    (λ x h. c.loop-x.invariant x (omega (arith, c.vertices-x-end.ensures.count)))
 
 pub returns-in_err-gkm_at-clause-fails : goal.returns-in_err-gkm_at-clause-fails
 returns-in_err-gkm_at-clause-fails c =

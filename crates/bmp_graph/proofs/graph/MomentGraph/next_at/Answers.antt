@@ -12,7 +12,8 @@ overflow_add-e c = omega (arith, c.next_ending-ending.ensures.after)
 pub first_of-requires-clause-ending : goal.first_of-requires-clause-ending
 first_of-requires-clause-ending c =
     let ends : upper c.args.self.now c.args.e ≡ c.args.x = sym c.edge.ensures.upper ∙ c.if-edge-x.true in
-    subst (λ x. IsNextEnding c.args.self.now x (c.args.e + 1) c.next_ending-ending.result) ends c.next_ending-ending.ensures
+    subst (λ x. IsNextEnding c.args.self.now x (c.args.e + 1) c.next_ending-ending.result) ends
+    c.next_ending-ending.ensures
 
 pub first_of-requires-clause-starts : goal.first_of-requires-clause-starts
 first_of-requires-clause-starts c =
@@ -32,9 +33,11 @@ overflow_add-e-2 c =
 pub returns-then-e-past : goal.returns-then-e-past
 returns-then-e-past c =
     IsNextEnd-more _ c.edge.ensures.graph c.args.x c.args.e _ _ c.requires.edge.is_edge
-    (starts_there _ c.args.x c.args.e _ c.requires.edge c.edge.ensures.upper c.if-edge-x.false) c.up-past.ensures.range c.if-e-past.true
+    (starts_there _ c.args.x c.args.e _ c.requires.edge c.edge.ensures.upper c.if-edge-x.false) c.up-past.ensures.range
+    c.if-e-past.true
 
 pub returns-else-e-past : goal.returns-else-e-past
 returns-else-e-past c =
     HasNoEnd-more _ c.edge.ensures.graph c.args.x c.args.e _ _ c.requires.edge.is_edge
-    (starts_there _ c.args.x c.args.e _ c.requires.edge c.edge.ensures.upper c.if-edge-x.false) c.up-past.ensures.range (omega arith)
+    (starts_there _ c.args.x c.args.e _ c.requires.edge c.edge.ensures.upper c.if-edge-x.false) c.up-past.ensures.range
+    (omega arith)

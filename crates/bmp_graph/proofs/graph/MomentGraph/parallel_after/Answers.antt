@@ -12,5 +12,6 @@ returns-then-has_parallel c =
 pub loop-next-preserved : goal.loop-next-preserved
 loop-next-preserved c =
     let apart : IsParallel c.args.self.now c.args.first c.in-Some.second → ⊥ = search rules in
-    searched_more _ c.args.x (c.args.first + 1) (λ e. IsParallelPair c.args.self.now c.args.x c.args.first e → ⊥) (no_partner _ c.args.x c.args.first)
+    searched_more _ c.args.x (c.args.first + 1) (λ e. IsParallelPair c.args.self.now c.args.x c.args.first e → ⊥)
+    (no_partner _ c.args.x c.args.first)
     _ _ c.in-Some.second c.loop-next.invariant c.in-Some.is (λ pair. apart pair.parallel) c.next_at-next-in-Some.ensures

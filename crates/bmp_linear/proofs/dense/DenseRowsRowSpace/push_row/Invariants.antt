@@ -7,4 +7,5 @@ abbrev pub invariant-loop-entry : goal.invariant-loop-entry
 invariant-loop-entry g l =
     (l.self-inside.rows ≡ l.fn.self.rows)
     × (l.self-inside.cols ≡ l.fn.self.cols)
-    × IsRowWritten (take l.entry-index l.entry-items) l.start l.fn.self.cols l.fn.self.numbers l.self-inside.numbers.items
+    × IsRowWritten (take l.entry-index l.entry-items) l.start l.fn.self.cols l.fn.self.numbers
+    l.self-inside.numbers.items

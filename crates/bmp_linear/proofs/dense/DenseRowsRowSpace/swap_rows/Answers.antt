@@ -9,7 +9,9 @@ swap_runs-requires-clause-apart g c = rows_apart c.args.i c.args.j c.self.inside
 
 pub returns-clause-exchanged : goal.returns-clause-exchanged
 returns-clause-exchanged g c =
-    runs_exchanged c.args.self.now c.self.inside.rows c.self.inside.cols c.self.inside.numbers.items c.as_mut_slice-numbers.result.now c.swap_runs.new.numbers _ c.self.view_is c.as_mut_slice-numbers.ensures.value (with_items_is c.self.inside.numbers c.swap_runs.new.numbers (search (rules, places)))
+    runs_exchanged c.args.self.now c.self.inside.rows c.self.inside.cols c.self.inside.numbers.items
+    c.as_mut_slice-numbers.result.now c.swap_runs.new.numbers _ c.self.view_is c.as_mut_slice-numbers.ensures.value
+    (with_items_is c.self.inside.numbers c.swap_runs.new.numbers (search (rules, places)))
     c.args.i c.args.j c.swap_runs.ensures
 
 pub returns-clause-numbers : goal.returns-clause-numbers

@@ -5,7 +5,8 @@ use Rattle.bmp_linear.proofs.rows.Rows.add_row_to.Goals as goal
 pub from_num-sum-requires : goal.from_num-sum-requires
 from_num-sum-requires g c =
     let a = g.Self.Rows.matrix c.args.self.now in
-    still_below (g.F.Field.size c.args.f.now) a c.args.i (g.F.Field.num c.args.f.now c.args.c) c.loop-j.j c.args.sums.now c.loop-j.sums _ c.requires.sums c.loop-j.invariant (search rules) c.from.ensures
+    still_below (g.F.Field.size c.args.f.now) a c.args.i (g.F.Field.num c.args.f.now c.args.c) c.loop-j.j
+    c.args.sums.now c.loop-j.sums _ c.requires.sums c.loop-j.invariant (search rules) c.from.ensures
 
 pub loop-j-init : goal.loop-j-init
 loop-j-init g c = added_none _ _ _ _ c.args.sums.now
@@ -13,10 +14,13 @@ loop-j-init g c = added_none _ _ _ _ c.args.sums.now
 pub loop-j-preserved : goal.loop-j-preserved
 loop-j-preserved g c =
     let a = g.Self.Rows.matrix c.args.self.now in
-    added_more (g.F.Field.size c.args.f.now) a c.args.i (g.F.Field.num c.args.f.now c.args.c) c.args.sums.now c.loop-j.j c.loop-j.sums _ _ _ _ (search rules) c.loop-j.invariant
-    (c.from_num-sum.ensures.number ∙ c.from.ensures) c.mul-term.ensures.number c.at.ensures.number (c.num.ensures ∙ c.add.ensures.number)
+    added_more (g.F.Field.size c.args.f.now) a c.args.i (g.F.Field.num c.args.f.now c.args.c) c.args.sums.now c.loop-j.j
+    c.loop-j.sums _ _ _ _ (search rules) c.loop-j.invariant
+    (c.from_num-sum.ensures.number ∙ c.from.ensures) c.mul-term.ensures.number c.at.ensures.number
+    (c.num.ensures ∙ c.add.ensures.number)
 
 pub returns : goal.returns
 returns g c =
     let a = g.Self.Rows.matrix c.args.self.now in
-    added_all (g.F.Field.size c.args.f.now) a c.args.i (g.F.Field.num c.args.f.now c.args.c) c.loop-j.j c.args.sums.now c.loop-j.sums (search rules) c.loop-j.invariant
+    added_all (g.F.Field.size c.args.f.now) a c.args.i (g.F.Field.num c.args.f.now c.args.c) c.loop-j.j c.args.sums.now
+    c.loop-j.sums (search rules) c.loop-j.invariant

@@ -6,12 +6,15 @@ use Rattle.bmp_linear.proofs.sparse.SparseRowsRowSpace.swap_rows.Goals as goal
 
 pub invariant_of-self : goal.invariant_of-self
 invariant_of-self g c =
-    swapped_sparse c.args.self.now c.self.inside.cols c.self.inside.rows.items c.self.view_is c.args.i c.args.j c.swap.new.self.items c.requires.first c.requires.second
-    (ap length c.swap.ensures.items ∙ length-swap c.self.inside.rows.items c.args.i c.args.j) c.swap.ensures.by_index c.self.invariant
+    swapped_sparse c.args.self.now c.self.inside.cols c.self.inside.rows.items c.self.view_is c.args.i c.args.j
+    c.swap.new.self.items c.requires.first c.requires.second
+    (ap length c.swap.ensures.items ∙ length-swap c.self.inside.rows.items c.args.i c.args.j) c.swap.ensures.by_index
+    c.self.invariant
 
 pub returns-clause-exchanged : goal.returns-clause-exchanged
 returns-clause-exchanged g c =
-    rows_swapped c.args.self.now c.self.inside.cols c.self.inside.rows.items c.self.view_is c.args.i c.args.j c.swap.new.self.items c.requires.first c.requires.second
+    rows_swapped c.args.self.now c.self.inside.cols c.self.inside.rows.items c.self.view_is c.args.i c.args.j
+    c.swap.new.self.items c.requires.first c.requires.second
     (ap length c.swap.ensures.items ∙ length-swap c.self.inside.rows.items c.args.i c.args.j) c.swap.ensures.by_index
 
 pub returns-clause-numbers : goal.returns-clause-numbers

@@ -4,4 +4,5 @@ use Rattle.bmp_linear.proofs.vector.Vector.spread.Given as goal
 
 -- the entries so far are written
 abbrev pub invariant-loop-entry : goal.invariant-loop-entry
-invariant-loop-entry l = (j : ℕ) → j < length l.into → get_or l.into j 0 ≡ number_at (take l.entry-index l.entry-items) j
+invariant-loop-entry l =
+    (j : ℕ) → j < length l.into → get_or l.into j 0 ≡ number_at (take l.entry-index l.entry-items) j

@@ -11,5 +11,7 @@ invariant-loop-k g l = record {
   after : l.self.leading < l.k;
   within : l.k ≤ l.self.rank;
   step : StepAt l.self.rank (lowered l.self.leading l.e) l.k l.later l.rest;
-  adding : AddingMultiple (g.F.Field.is_value l.f) (g.F.Field.num l.f) (g.F.Field.size l.f) 6 l.self.rank l.degree (coordinate_of l.self) (g.F.Field.num l.f l.factor) (lowered l.self.leading l.e) l.fn.coefficients l.coefficients l.k;
+  adding : AddingMultiple (g.F.Field.is_value l.f) (g.F.Field.num l.f) (g.F.Field.size l.f) 6 l.self.rank l.degree
+      (coordinate_of l.self) (g.F.Field.num l.f l.factor) (lowered l.self.leading l.e) l.fn.coefficients l.coefficients
+      l.k;
 }

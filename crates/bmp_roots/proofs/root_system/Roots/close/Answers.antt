@@ -16,16 +16,21 @@ returns-in_err-pairs-clause-past_rank c =
 pub invariant_of-result : goal.invariant_of-result
 invariant_of-result c = record {
   form = subst HasCartanForm (sym c.copied.ensures) c.rank.ensures.form;
-  closed = ∣ subst (λ (m : CartanMatrix). IsClosed m (pairs_of c.in_ok-pairs.pairs)) (sym c.copied.ensures) c.in_ok-pairs.ensures.closed ∣₁;
+  closed = ∣ subst (λ (m : CartanMatrix). IsClosed m (pairs_of c.in_ok-pairs.pairs)) (sym c.copied.ensures)
+      c.in_ok-pairs.ensures.closed ∣₁;
   positives =
       c.positive_list-positive.ensures
-      ∙ ap (λ n. positives_of n c.in_ok-pairs.pairs) (c.rank.ensures.value ∙ ap (λ (m : CartanMatrix). m.rank) (sym c.copied.ensures));
+      ∙ ap (λ n. positives_of n c.in_ok-pairs.pairs)
+      (c.rank.ensures.value ∙ ap (λ (m : CartanMatrix). m.rank) (sym c.copied.ensures));
 }
 
 pub returns-clause-pairs : goal.returns-clause-pairs
-returns-clause-pairs c = root_pairs_are c.args.cartan.now c.rank.ensures.form (pairs_of c.in_ok-pairs.pairs) (λ never. never c.in_ok-pairs.ensures.closed)
+returns-clause-pairs c =
+    root_pairs_are c.args.cartan.now c.rank.ensures.form (pairs_of c.in_ok-pairs.pairs)
+    (λ never. never c.in_ok-pairs.ensures.closed)
 
 pub returns-clause-positive : goal.returns-clause-positive
 returns-clause-positive c =
-    positive_roots_of_pairs c.args.cartan.now c.rank.ensures.form c.in_ok-pairs.pairs c.positive_list-positive.result (λ never. never c.in_ok-pairs.ensures.closed)
+    positive_roots_of_pairs c.args.cartan.now c.rank.ensures.form c.in_ok-pairs.pairs c.positive_list-positive.result
+    (λ never. never c.in_ok-pairs.ensures.closed)
     (c.positive_list-positive.ensures ∙ ap (λ n. positives_of n c.in_ok-pairs.pairs) c.rank.ensures.value)

@@ -10,8 +10,10 @@ invariant_of-result c = record {
   form = subst HasCartanForm (sym c.copied.ensures) c.args.self.now.form;
   closed =
       subst (λ (ps : List Pair). ∥ IsClosed c.copied.result (pairs_of ps) ∥₁) (sym c.copied-2.ensures)
-      (subst (λ (m : CartanMatrix). ∥ IsClosed m (pairs_of c.args.self.now.pairs) ∥₁) (sym c.copied.ensures) c.args.self.now.closed);
+      (subst (λ (m : CartanMatrix). ∥ IsClosed m (pairs_of c.args.self.now.pairs) ∥₁) (sym c.copied.ensures)
+      c.args.self.now.closed);
   positives =
       c.copied-3.ensures ∙ c.args.self.now.positives
-      ∙ ap₂ (λ (m : CartanMatrix) (ps : List Pair). positives_of m.rank ps) (sym c.copied.ensures) (sym c.copied-2.ensures);
+      ∙ ap₂ (λ (m : CartanMatrix) (ps : List Pair). positives_of m.rank ps) (sym c.copied.ensures)
+      (sym c.copied-2.ensures);
 }

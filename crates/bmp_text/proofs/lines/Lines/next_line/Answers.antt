@@ -5,4 +5,5 @@ use Rattle.bmp_text.proofs.lines.Lines.next_line.Goals as goal
 
 pub returns-clause-later : goal.returns-clause-later
 returns-clause-later c =
-    cut_passed c.args.self.now _ (cut 10 c.args.self.now.rest) c.split.result.0.now c.in-Some.rest.now refl (search rules) (search rules) (search rules) (search rules)
+    cut_passed c.args.self.now _ (cut 10 c.args.self.now.rest) c.split.result.0.now c.in-Some.rest.now refl
+    (search rules) (search rules) (search rules) (search rules)
