@@ -16,7 +16,7 @@ use Rattle.bmp_linear.specs.Faults.{AllPass}
 use Rattle.bmp_linear.specs.Evidence.{EvidenceFits, EvidenceBelow, vector_at}
 use Rattle.bmp_linear.specs.KernelChecks.{KernelCompares}
 use Rattle.bmp_linear.proofs.ShapeLemmas.{all_from_index}
-use Rattle.bmp_linear.proofs.FreeLemmas.{length-free_places}
+use Rattle.bmp_linear.proofs.FreeLemmas.{length-free_places, free_place_below}
 use Rattle.bmp_elim.specs.Echelons.{IsEchelon, IsReducedBelow}
 use Rattle.bmp_elim.specs.Traces.{IsTrace}
 use Rattle.bmp_linear.specs.RowVectors.{IsRowVector}
@@ -58,7 +58,10 @@ module _ (p : ℕ) (old a t : Matrix) (ps : List ℕ) (basis rows : List (List E
         pivots_below = rw (← h.cols) (pivots_below a ps r);
         row_for_each = row_count;
         in_all = rw (← h.cols) (omega (arith, b.one_for_each));
-        basis_fits = all_from_index (λ v. FitsBelow v old.cols) basis (length basis) [] (omega arith) (λ k l. rw (← h.cols) (b.vectors k l).fits);
+        basis_fits = all_from_index (λ v. FitsBelow v old.cols) basis (length basis) [] (omega arith) (λ k l i d m.
+            let fits : (get_or (get_or basis k []) i d).place < get_or (free_places ps a.cols) k 0 + 1 = (b.vectors k l).fits i d m in
+            let below : get_or (free_places ps a.cols) k 0 < a.cols = free_place_below ps a.cols k (rw (← b.one_for_each) l) in
+            omega (arith, h.cols));
         rows_fit = all_from_index (λ v. FitsBelow v old.rows) rows (length rows) [] (omega arith) (λ k l. rw (← h.trace_cols) (row_each k l).fits);
       }
 

@@ -19,13 +19,13 @@ abbrev pub TakesAway : ℕ → Matrix → ℕ → ℕ → ℕ → Type 0
 TakesAway p a free k x = SameMod p (a.entry k free + x) 0
 
 -- the 1 at the free place ends its vector
-pub free_vector_made : (p : ℕ) (a : Matrix) (ps : List ℕ) (before free : ℕ) (v : List Entry) (e : Entry) → 2 ≤ p → IsEchelon a ps → free < a.cols → IsCountBelow ps free before → ((k : ℕ) → k < length ps → get_or ps k 0 ≢ free) → IsPlacedBelow p ps before (TakesAway p a free) v → e.place ≡ free → e.value ≡ 1 → IsFreeVector p a ps free (v ++ e ∷ [])
-free_vector_made p a ps before free v e two r within count apart h at one =
+pub free_vector_made : (p : ℕ) (a : Matrix) (ps : List ℕ) (before free : ℕ) (v : List Entry) (e : Entry) → 2 ≤ p → IsEchelon a ps → IsCountBelow ps free before → ((k : ℕ) → k < length ps → get_or ps k 0 ≢ free) → IsPlacedBelow p ps before (TakesAway p a free) v → e.place ≡ free → e.value ≡ 1 → IsFreeVector p a ps free (v ++ e ∷ [])
+free_vector_made p a ps before free v e two r count apart h at one =
     let fits : FitsBelow v free = h.fits free count.early in
     let fits_e : FitsBelow v e.place = rw at fits in
     let other : (j : ℕ) → j ≢ free → number_at (v ++ e ∷ []) j ≡ number_at v j = λ j away. number_at-push_other v e j (λ same. away (sym same ∙ at)) in
     record {
-      fits = All-push (λ d. d.place < a.cols) v e (h.fits a.cols (λ k l. let under : get_or ps k 0 < free = count.early k l in omega arith)) (rw at within);
+      fits = All-push (λ d. d.place < free + 1) v e (h.fits (free + 1) (λ k l. let under : get_or ps k 0 < free = count.early k l in omega arith)) (rw at (omega arith));
       below = All-push (λ d. d.value < p) v e h.below (rw one two);
       at_free = ap (number_at (v ++ e ∷ [])) (sym at) ∙ number_at-push_same v e fits_e ∙ one;
       at_pivots = λ k l.

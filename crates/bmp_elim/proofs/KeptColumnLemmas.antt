@@ -61,11 +61,11 @@ module _ {p : ℕ} {old a t : Matrix} {ps : List ℕ} {split start : ℕ} {chose
   late_within : (i : ℕ) → i < length chosen → start + i < length ps
   late_within i l = omega (arith, h.choice.shifted.one_for_each)
 
-  kept_count : length kept ≡ start + length chosen
+  pub kept_count : length kept ≡ start + length chosen
   kept_count = omega (arith, h.choice.shifted.one_for_each, h.choice.pivots.one_for_each)
 
   -- where the pivots stand among the kept columns, the kept columns stand where the pivots do
-  place_of_pivot : (k : ℕ) → k < length ps → kept_place split chosen (get_or kept k 0) ≡ get_or ps k 0
+  pub place_of_pivot : (k : ℕ) → k < length ps → kept_place split chosen (get_or kept k 0) ≡ get_or ps k 0
   place_of_pivot k l = elim (cases_lt k start) [
     | inl early ↦
         let under : get_or ps k 0 < split = h.choice.count.early k early in

@@ -14,3 +14,4 @@ pub mod FieldLemmas
 pub mod ReducedFormLemmas
 pub mod LawLemmas
 pub mod KeptColumnLemmas
+pub mod KeptKernelLemmas

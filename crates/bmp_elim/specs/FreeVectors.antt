@@ -1,7 +1,7 @@
 -- Vectors with numbers at pivots and at a free place.
 --   IsPlacedBelow p ps n P v          v has numbers at the first n of the places ps alone, that of the k-th with P k
 --   IsCountBelow ps j n               n of the pivots ps, the first ones, are below j
---   IsFreeVector p a ps free v        v is 1 at the free place, takes its column away at the pivots, and is 0 elsewhere
+--   IsFreeVector p a ps free v        v is 1 at the free place, takes its column away at the pivots before it, and is 0 elsewhere
 --   IsBasisBelow p a ps n vs          one for each free place below n, in rising order
 use Rattle.std.specs.Prelude.{◌≡◌, ◌≢◌, ℕ, ◌+◌, ◌<◌, ◌≤◌, List, [], length, slice_index, slice_index_or}
 use Rattle.bmp_math.specs.Congruences.{SameMod}
@@ -25,7 +25,7 @@ pub record IsCountBelow (ps : List ℕ) (j n : ℕ) : Type 0 where
 
 -- v is 1 at the free place, takes its column away at the pivots, and is 0 elsewhere
 pub record IsFreeVector (p : ℕ) (a : Matrix) (ps : List ℕ) (free : ℕ) (v : List Entry) : Type 0 where
-  pub fits : FitsBelow v a.cols
+  pub fits : FitsBelow v (free + 1)
   pub below : ValuesBelow v p
   pub at_free : number_at v free ≡ 1
   pub at_pivots : (k : ℕ) → k < length ps → SameMod p (a.entry k free + number_at v (slice_index ps k)) 0

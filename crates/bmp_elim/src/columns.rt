@@ -5,13 +5,14 @@ ghost use Rattle.std.specs.List.Sorted.{IsStrictlyIncreasing};
 ghost use Rattle.bmp_math.specs.Matrices.{Matrix, NumbersBelow};
 ghost use Rattle.bmp_elim.specs.Columns.{AreShifted};
 ghost use Rattle.bmp_elim.specs.FreeVectors.{IsCountBelow};
-ghost use Rattle.bmp_elim.specs.Eliminations.{IsReducedOf};
-ghost use Rattle.bmp_elim.specs.KeptColumns.{AreKeptPivots, IsPlacedColumn, ArePlacedColumns, IsColumnChoice, HasColumnDuals, HasColumnSums, AreColumns};
+ghost use Rattle.bmp_elim.specs.Eliminations.{IsReducedOf, IsEvidenceOf};
+ghost use Rattle.bmp_elim.specs.KeptColumns.{AreKeptPivots, IsPlacedColumn, ArePlacedColumns, IsColumnChoice, HasColumnDuals, HasColumnSums, AreColumns, kept_columns};
 
 use crate::eliminated::{Eliminated, eliminate_rows};
+use crate::kernels::free_vectors;
 use crate::row_vectors::row_vectors;
 use bmp_field::Field;
-use bmp_linear::{Entry, Places, RowSpace, Rows, Vector, Vectors};
+use bmp_linear::{Entry, KernelEvidence, Places, RowSpace, Rows, Vector, Vectors};
 use std::alloc::{AllocError, Global};
 
 /// Which columns behind the first ones are chosen, and what is read off the elimination that chose them.
@@ -23,6 +24,8 @@ pub struct ColumnExtension {
     pub duals: Vectors,
     /// For each column behind the first ones the numbers by which the kept columns combine to it.
     pub sums: Vectors,
+    /// Evidence for the kernel of the kept columns, which are the first ones and the chosen ones.
+    pub kernel: KernelEvidence,
 }
 
 /// How many of the places are below `n`.
@@ -176,19 +179,23 @@ pub fn extend_columns<F: Field, A: RowSpace<F>>(
     ensures chosen { IfOk result (λ e. AreColumns split (A.matrix columns) e.chosen) }
     ensures duals { IfOk result (λ e. HasColumnDuals (F.size f.now) split (A.matrix columns) e.chosen e.duals) }
     ensures sums { IfOk result (λ e. HasColumnSums (F.size f.now) split (A.matrix columns) e.chosen e.sums) }
+    ensures kernel { IfOk result
+        (λ e. IsEvidenceOf (F.size f.now) (kept_columns split e.chosen (A.matrix columns)) e.kernel) }
 {
     let r = reduced_columns(alloc, f, columns, split)?;
-    let duals = row_vectors(
-        alloc,
-        f,
-        &r.eliminated.trace,
-        r.start,
-        r.eliminated.pivots.len(),
-    )?;
+    let count = r.eliminated.pivots.len();
+    let duals = row_vectors(alloc, f, &r.eliminated.trace, r.start, count)?;
     let sums = placed_columns(alloc, f, &r.eliminated.rows, &r.kept, split)?;
+    let basis = free_vectors(alloc, f, &r.eliminated.rows, &r.eliminated.pivots, split)?;
+    let combinations = row_vectors(alloc, f, &r.eliminated.trace, 0, count)?;
     Ok(ColumnExtension {
         chosen: r.chosen,
         duals,
         sums,
+        kernel: KernelEvidence {
+            pivots: r.kept,
+            basis,
+            rows: combinations,
+        },
     })
 }

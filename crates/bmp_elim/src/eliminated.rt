@@ -80,7 +80,7 @@ pub fn evidence_by<F: Field, A: Rows<F> + Drop>(
         → IsReducedOf (F.size f.now) old (A.matrix e.now.rows) (A.matrix e.now.trace) e.now.pivots
         → IsEvidenceOf (F.size f.now) old evidence) }
 {
-    let basis = free_vectors(alloc, f, &e.rows, &e.pivots)?;
+    let basis = free_vectors(alloc, f, &e.rows, &e.pivots, e.rows.cols())?;
     let combinations = row_vectors(alloc, f, &e.trace, 0, e.pivots.len())?;
     let pivots = e.pivots.copy()?;
     Ok(KernelEvidence {

@@ -1,5 +1,5 @@
 //! What rows send to 0.
-ghost use Rattle.std.specs.Prelude.{◌≡◌, ◌≢◌, ◌<◌, ◌↔◌, IsTrue, ℕ, length, slice_index, IfOk};
+ghost use Rattle.std.specs.Prelude.{◌≡◌, ◌≢◌, ◌<◌, ◌≤◌, ◌↔◌, IsTrue, ℕ, length, slice_index, IfOk};
 ghost use Rattle.bmp_math.specs.Matrices.{Matrix, NumbersBelow, IsInKernel, IsIndependent};
 ghost use Rattle.bmp_linear.specs.Evidence.{EvidenceFits, EvidenceBelow, vector_at};
 ghost use Rattle.bmp_linear.specs.Faults.{AllPass};
@@ -52,20 +52,22 @@ fn is_next(pivots: &Places, next: u32, place: u32) -> bool
     next < pivots.len() && pivots.at(next) == place
 }
 
-/// The vectors of the free places, in rising order.
+/// The vectors of the free places below `end`, in rising order.
 pub(crate) fn free_vectors<F: Field, A: Rows<F>>(
     alloc: Global,
     f: &F,
     a: &A,
     pivots: &Places,
+    end: u32,
 ) -> Result<Vectors, AllocError>
     requires numbers { NumbersBelow (F.size f.now) (A.matrix a.now) }
     requires echelon { IsEchelon (A.matrix a.now) pivots.now }
-    ensures { IfOk result (IsBasisBelow (F.size f.now) (A.matrix a.now) pivots.now (A.matrix a.now).cols) }
+    requires end { end ≤ (A.matrix a.now).cols }
+    ensures { IfOk result (IsBasisBelow (F.size f.now) (A.matrix a.now) pivots.now end) }
 {
     let mut vectors = Vectors::new(alloc);
     let mut next = 0;
-    for place in 0..a.cols() {
+    for place in 0..end {
         if is_next(pivots, next, place) {
             next += 1;
         } else {

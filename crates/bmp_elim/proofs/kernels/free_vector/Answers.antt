@@ -28,4 +28,4 @@ returns g c =
     let ends : c.loop-k.k ≡ c.args.before = omega arith in
     let placed : IsPlacedBelow (g.F.Field.size c.args.f.now) c.args.pivots.now c.args.before (TakesAway (g.F.Field.size c.args.f.now) (g.A.Rows.matrix c.args.a.now) c.args.free) c.loop-k.vector = rw (← ends) c.loop-k.invariant in
     rw c.in_ok-push-2.ensures.ok
-    (free_vector_made (g.F.Field.size c.args.f.now) (g.A.Rows.matrix c.args.a.now) c.args.pivots.now c.args.before c.args.free c.loop-k.vector (record { place = c.args.free; value = 1 }) two c.requires.echelon c.requires.column c.requires.before c.requires.free placed refl refl)
+    (free_vector_made (g.F.Field.size c.args.f.now) (g.A.Rows.matrix c.args.a.now) c.args.pivots.now c.args.before c.args.free c.loop-k.vector (record { place = c.args.free; value = 1 }) two c.requires.echelon c.requires.before c.requires.free placed refl refl)
