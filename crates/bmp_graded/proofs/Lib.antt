@@ -16,3 +16,4 @@ pub mod ReducedActs
 pub mod TupleLemmas
 pub mod NormalLaws
 pub mod BlockActs
+pub mod Generators
