@@ -4,12 +4,11 @@ use Rattle.std.proofs.lemmas.Bool.{cases_lt, cond-true, cond-false, lt-leb, le-l
 use Rattle.bmp_math.specs.Congruences.{SameMod}
 use Rattle.bmp_poly.specs.Exponents.{count, place, exponents}
 use Rattle.bmp_poly.specs.Forms.{IsLabel}
-use Rattle.bmp_poly.specs.Coordinates.{IsLeading}
 use Rattle.bmp_math.specs.Vectors.{SameVector}
 use Rattle.bmp_graded.specs.Modules.{polynomials, moved, nothing, both, copies}
 use Rattle.bmp_graded.specs.Quotients.{insert, reduced}
 use Rattle.bmp_graded.proofs.ReducedLaws.{projected_congruent, congruent_projected}
-use Rattle.bmp_graded.specs.NormalForms.{HasInverses, inverse_below, normal_by}
+use Rattle.bmp_graded.specs.NormalForms.{inverse_below, normal_by}
 use Rattle.bmp_graded.specs.Quotients.{quotient}
 use Rattle.bmp_graded.proofs.PassLaws.{normal_by_is, label_cases}
 use Rattle.bmp_graded.specs.Maps.{blockwise, projection}
@@ -74,8 +73,3 @@ same_modulo p r l coords degrees d u v two inverses leads =
     label_cases (λ p r. SameVector p ((quotient p (r - 1) l (λ k. get_or coords k 0) degrees).dim d) (projection p (r - 1) l (λ k. get_or coords k 0) degrees d u) (projection p (r - 1) l (λ k. get_or coords k 0) degrees d v) ↔ IsSameModulo p r (λ k. get_or coords k 0) degrees d u v)
     p r l coords two inverses leads
     (λ q r label wide one. let less_one : suc r - 1 ≡ r = omega arith in rw less_one (same_congruent q r l (λ k. get_or coords k 0) label wide one degrees d u v, congruent_same q r l (λ k. get_or coords k 0) label wide one degrees d u v))
-
-pub same_modulo_over : (p s r r' l : ℕ) (coords degrees : List ℕ) (d : ℕ) (u v : ℕ → ℕ) → p ≡ s → r ≡ r' → 2 ≤ p → HasInverses p → IsLeading s r' l coords
-    → SameVector p ((quotient s (r' - 1) l (λ k. get_or coords k 0) degrees).dim d) (projection s (r' - 1) l (λ k. get_or coords k 0) degrees d u) (projection s (r' - 1) l (λ k. get_or coords k 0) degrees d v)
-    ↔ IsSameModulo p r (λ k. get_or coords k 0) degrees d u v
-same_modulo_over p s r r' l coords degrees d u v same ranks two inverses leads = rw (ranks, ← same) (same_modulo p r' l coords degrees d u v two inverses (rw (← same) at leads))

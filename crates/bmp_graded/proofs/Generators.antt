@@ -12,6 +12,7 @@ use Rattle.bmp_poly.specs.Shifts.{joined, less}
 use Rattle.bmp_poly.proofs.PlaceLemmas.{StandsAt, exponents_stand, place_below, length-zeros}
 use Rattle.bmp_poly.proofs.ProductLemmas.{constant_is_one}
 use Rattle.bmp_poly.proofs.ShiftLemmas.{length-joined, less-of_joined, less-zeros}
+use Rattle.bmp_graded.specs.Graded.{Graded, IsModule, IsModuleMap}
 use Rattle.bmp_graded.specs.Modules.{polynomials, moved, nothing, both, copies, free}
 use Rattle.bmp_graded.specs.Maps.{extension}
 use Rattle.bmp_graded.specs.Components.{component, IsGenerator}
@@ -170,3 +171,11 @@ extension_sends p r h M gs ws v wide laws inside is j below =
     ∙ ap (λ z. z % p) (extension_unit r M a gs ws h 0 j inside (omega arith) (omega (arith, one)))
     ∙ ap (λ z. M.act z a a (ws h) j % p) (ap (λ z. exponents 6 r z 0) none ∙ constant r wide)
     ∙ laws.one a (ws h) j below
+
+-- so each module map is the extension of the generators' images
+pub extension_is : (p r : ℕ) (M : Graded) (gs : List ℕ) (ws : ℕ → ℕ → ℕ) (f : ℕ → (ℕ → ℕ) → ℕ → ℕ) → r ≤ 6 → IsModule p r M → IsModuleMap p r (free r gs) M f
+    → ((h : ℕ) → h < length gs → SameVector p (M.dim (get_or gs h 0)) (ws h) (f (get_or gs h 0) (generator r gs h))) → (d : ℕ) (u : ℕ → ℕ) → SameVector p (M.dim d) (extension r M gs ws d u) (f d u)
+extension_is p r M gs ws f wide laws F same =
+    maps_determined p r M gs (extension r M gs ws) f (generator r gs) wide laws (extension_map p r M gs ws wide laws) F
+    (λ h inside. let is : IsGenerator r gs h (generator r gs h) = generator_is_one r h gs wide inside in
+    (is, λ i below. extension_sends p r h M gs ws (generator r gs h) wide laws inside is i below ∙ same h inside i below))

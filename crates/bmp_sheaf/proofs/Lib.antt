@@ -30,10 +30,8 @@ pub mod BoundaryWrites
 pub mod BoundaryRowLemmas
 pub mod SizeLemmas
 pub mod Agreement
-pub mod MonomialLemmas
 pub mod RowLemmas
 pub mod ModuleLemmas
 pub mod EdgeMatrices
-pub mod Determined
 pub mod EdgeColumns
 pub mod EdgeImages
