@@ -49,7 +49,7 @@ total_below n gs (suc h) inside =
     more ∙ ap (λ z. z + n (get_or gs h 0)) (total_below n gs h (omega arith))
 
 -- how many coordinates a generator has
-free_block : (r d g : ℕ) → block_dim (polynomials r) d g ≡ component_count r d g
+pub free_block : (r d g : ℕ) → block_dim (polynomials r) d g ≡ component_count r d g
 unfolding moved polynomials
 free_block r d g = refl
 

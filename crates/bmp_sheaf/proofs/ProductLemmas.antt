@@ -1,7 +1,7 @@
 -- A polynomial times a constant.
-use Rattle.std.proofs.Common.{◌≡◌, ℕ, ◌+◌, ◌*◌, ◌≤◌, ◌⊎◌, true, false, leb, List, [], ◌∷◌, ap, subst, ◌∙◌, inl, inr, arith, refl}
+use Rattle.std.proofs.Common.{◌≡◌, ℕ, ◌+◌, ◌*◌, ◌≤◌, ◌⊎◌, true, false, List, ap, subst, ◌∙◌, inl, inr, arith}
 use Rattle.std.proofs.Math.Path.{fun_ext}
-use Rattle.std.proofs.lemmas.Bool.{cases_Bool, and_from, le-leb}
+use Rattle.std.proofs.lemmas.Bool.{cases_Bool}
 use Rattle.bmp_math.proofs.SumLemmas.{sum_below_same, sum_below-zeros}
 use Rattle.bmp_poly.specs.Exponents.{IsMonomial, count, exponents}
 use Rattle.bmp_poly.specs.Forms.{Form}

@@ -1,6 +1,6 @@
 -- A monomial times multiples, times sums, times the same polynomial; and at monomials of a lower degree.
-use Rattle.std.proofs.Common.{◌≡◌, ℕ, ◌+◌, ◌*◌, ◌%◌, ◌<◌, true, false, cond, List, sym, refl, ap, ◌∙◌, inl, inr, arith}
-use Rattle.std.proofs.lemmas.Bool.{cases_Bool, cond-true, cond-false}
+use Rattle.std.proofs.Common.{◌≡◌, ℕ, ◌*◌, ◌<◌, true, false, cond, List, sym, refl, ◌∙◌, inl, inr, arith}
+use Rattle.std.proofs.lemmas.Bool.{cases_Bool, cond-false}
 use Rattle.bmp_math.specs.Sums.{sum_below}
 use Rattle.bmp_math.proofs.SumLemmas.{sum_below-zeros}
 use Rattle.bmp_poly.specs.Exponents.{IsMonomial}

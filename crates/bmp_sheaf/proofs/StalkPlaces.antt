@@ -1,12 +1,10 @@
 -- Places of coordinates lie below their number.
-use Rattle.std.proofs.Common.{◌≡◌, ℕ, zero, suc, ◌+◌, ◌-◌, ◌<◌, ◌≤◌, leb, List, [], ◌∷◌, length, refl, sym, ap, subst, ◌∙◌, arith}
+use Rattle.std.proofs.Common.{◌≡◌, ℕ, zero, suc, ◌+◌, ◌-◌, ◌<◌, ◌≤◌, leb, List, length, sym, ap, subst, ◌∙◌, arith}
 use Rattle.std.specs.Prelude.{slice_index, remove}
-use Rattle.std.specs.List.{sum}
 use Rattle.std.proofs.lemmas.Bool.{cond-true, le-leb}
-use Rattle.std.proofs.lemmas.List.Edits.{length-remove}
 use Rattle.bmp_math.proofs.SumLemmas.{sum_below-suc, sum_below_rises}
 use Rattle.bmp_poly.specs.Exponents.{IsMonomial, count, place}
-use Rattle.bmp_poly.proofs.PlaceLemmas.{sum-cons, place_below}
+use Rattle.bmp_poly.proofs.PlaceLemmas.{place_below}
 use Rattle.bmp_graded.specs.Quotients
 use Rattle.bmp_graded.proofs.PureLemmas.{remove_parts}
 use Rattle.bmp_graded.proofs.QuotientLemmas.{remove_monomial}

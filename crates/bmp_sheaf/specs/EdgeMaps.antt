@@ -4,7 +4,7 @@
 --   lift_by r from into lifts g            the lift of the generator g, where `from` is the degrees below and `into` those above
 --   lower_map p r c l from into lifts d    the matrix of the lift: a row for each coordinate on the edge, a column for each of the lower stalk
 --   upper_map p r c l into d               the matrix of the upper stalk's map to the edge module
-use Rattle.std.specs.Prelude.{◌≡◌, ℕ, ◌-◌, ◌<◌, List, [], length, slice_index, slice_index_or}
+use Rattle.std.specs.Prelude.{ℕ, ◌-◌, ◌<◌, List, [], length, slice_index, slice_index_or}
 use Rattle.bmp_math.specs.Matrices.{Matrix}
 pub use Rattle.bmp_math.specs.Matrices.{SameMatrix}
 use Rattle.bmp_linear.specs.declared.vector.Entry.{Entry}
