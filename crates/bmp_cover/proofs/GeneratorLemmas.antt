@@ -7,9 +7,11 @@ use Rattle.bmp_math.specs.Sums.{sum_below}
 use Rattle.bmp_math.proofs.SumLemmas.{sum_below-zero, sum_below_more, sum_below_rises}
 use Rattle.bmp_poly.specs.Exponents.{count, place, zeros}
 use Rattle.bmp_poly.proofs.PlaceLemmas.{sum-zeros}
+use Rattle.bmp_graded.specs.Modules.{polynomials, moved}
 use Rattle.bmp_graph.specs.Graph.{Graph}
 use Rattle.bmp_sheaf.specs.Sheaves.{SheafData}
 use Rattle.bmp_sheaf.specs.Coordinates.{component_count, stalk_start, stalk_count}
+use Rattle.bmp_sheaf.proofs.ModuleLemmas.{free_block}
 use Rattle.bmp_cover.specs.Counts.{generators_in}
 use Rattle.bmp_cover.specs.Evidence.{generator_place}
 use Rattle.bmp_cover.specs.CoverChecks.{source_place}
@@ -18,16 +20,8 @@ module _ (r : ℕ) (degrees : List ℕ) (d g : ℕ) where
   next_start : stalk_start r degrees d (g + 1) ≡ stalk_start r degrees d g + component_count r d (slice_index degrees g)
   next_start = sum_below_more (λ h. component_count r d (slice_index degrees h)) g
 
-  pub next_none : (start : ℕ) → start ≡ stalk_start r degrees d g → d < slice_index degrees g → start ≡ stalk_start r degrees d (g + 1)
-  next_none start is above =
-      let none : component_count r d (slice_index degrees g) ≡ 0 = cond-false {A = ℕ} (leb (slice_index degrees g) d) (count r (d - slice_index degrees g)) 0 (lt-leb (slice_index degrees g) d above) in
-      omega (arith, is, none, next_start)
-
-  pub next_some : (start : ℕ) → start ≡ stalk_start r degrees d g → slice_index degrees g ≤ d → start + count r (d - slice_index degrees g) ≡ stalk_start r degrees d (g + 1)
-  next_some start is within =
-      let some : component_count r d (slice_index degrees g) ≡ count r (d - slice_index degrees g) =
-      cond-true {A = ℕ} (leb (slice_index degrees g) d) (count r (d - slice_index degrees g)) 0 (le-leb (slice_index degrees g) d within) in
-      omega (arith, is, some, next_start)
+  pub next_is : (start own : ℕ) → start ≡ stalk_start r degrees d g → own ≡ (moved (slice_index degrees g) (polynomials r)).dim d → start + own ≡ stalk_start r degrees d (g + 1)
+  next_is start own is own_is = omega (arith, is, own_is, free_block r d (slice_index degrees g), next_start)
 
   pub next_within : g < length degrees → stalk_start r degrees d (g + 1) ≤ stalk_count r degrees d
   next_within below = sum_below_rises (λ h. component_count r d (slice_index degrees h)) (g + 1) (length degrees) (omega arith)

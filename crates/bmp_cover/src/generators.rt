@@ -4,7 +4,6 @@ ghost use Rattle.bmp_module.specs.FreeModules.{rank_of, degrees_of};
 ghost use Rattle.bmp_sheaf.specs.Coordinates.{stalk_start, stalk_count};
 
 use bmp_module::Free;
-use bmp_poly::monomials;
 
 /// Where the coordinates of degree `d` of the generator after `g` start, if those of `g` start at `start`.
 pub(crate) fn next_start(module: &Free, d: u32, g: u32, start: u32) -> u32
@@ -14,9 +13,6 @@ pub(crate) fn next_start(module: &Free, d: u32, g: u32, start: u32) -> u32
     requires start { start ≡ stalk_start (rank_of module.now) (degrees_of module.now) d g }
     ensures { result ≡ stalk_start (rank_of module.now) (degrees_of module.now) d (g + 1) }
 {
-    let degree = module.degree_of(g);
-    if degree > d {
-        return start;
-    }
-    start + monomials::count(module.rank(), d - degree)
+    let own = module.coordinates_of(g, d);
+    start + own
 }

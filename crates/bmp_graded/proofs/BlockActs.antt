@@ -1,9 +1,10 @@
 -- What is done block by block, at a place of one block; and linear extensions of the elements that are 1 at one place.
-use Rattle.std.proofs.Common.{◌≡◌, ◌≢◌, ℕ, zero, suc, ◌+◌, ◌-◌, ◌*◌, ◌<◌, ◌≤◌, cond, eqb, leb, ltb, List, [], ◌∷◌, length, get_or, take, refl, sym, ap, ap₂, ◌∙◌, inl, inr, arith, eq-eqb, ne_eqb}
-use Rattle.std.proofs.lemmas.Bool.{cases_lt, cond-true, cond-false, lt-leb, le-leb, lt-ltb, le-ltb}
+use Rattle.std.proofs.Common.{◌≡◌, ℕ, zero, suc, ◌+◌, ◌-◌, ◌*◌, ◌<◌, ◌≤◌, cond, leb, ltb, List, [], ◌∷◌, length, get_or, take, refl, sym, ap, ap₂, ◌∙◌, inl, inr, arith}
+use Rattle.std.proofs.lemmas.Bool.{cases_eq, cases_lt, cond-true, cond-false, lt-leb, le-leb, lt-ltb, le-ltb}
 use Rattle.std.proofs.Math.Path.{fun_ext}
 use Rattle.bmp_math.specs.Sums.{sum_below}
 use Rattle.bmp_math.specs.Vectors.{unit}
+use Rattle.bmp_math.proofs.UnitLemmas.{unit_same, unit_other}
 use Rattle.bmp_math.proofs.SumLemmas.{sum_below_same, sum_below_only, sum_below-zeros}
 use Rattle.bmp_poly.specs.Exponents.{count, exponents}
 use Rattle.bmp_graded.specs.Graded.{Graded}
@@ -34,19 +35,10 @@ blockwise_at n m f (g ∷ gs) u (suc h) j inside below =
     ∙ blockwise_at n m f gs (λ i. u (n g + i)) h j (omega arith) below
     ∙ ap (λ w. f (get_or gs h 0) w j) onward
 
-unit_here : (k i : ℕ) → k ≡ i → unit k i ≡ 1
-unit_here k i same = cond-true {A = ℕ} (eqb k i) 1 0 (eq-eqb k i same)
-
-unit_elsewhere : (k i : ℕ) → k ≢ i → unit k i ≡ 0
-unit_elsewhere k i other = cond-false {A = ℕ} (eqb k i) 1 0 (ne_eqb k i other)
-
-unit_moved : (a k i : ℕ) → unit (a + k) (a + i) ≡ unit k i
-unit_moved a k i = elim (cases_lt k i) [
-  | inl below ↦ unit_elsewhere (a + k) (a + i) (λ e. absurd (omega arith)) ∙ sym (unit_elsewhere k i (λ e. absurd (omega arith)))
-  | inr from ↦ elim (cases_lt i k) [
-    | inl above ↦ unit_elsewhere (a + k) (a + i) (λ e. absurd (omega arith)) ∙ sym (unit_elsewhere k i (λ e. absurd (omega arith)))
-    | inr same ↦ unit_here (a + k) (a + i) (omega arith) ∙ sym (unit_here k i (omega arith))
-  ]
+pub unit_moved : (a k i : ℕ) → unit (a + k) (a + i) ≡ unit k i
+unit_moved a k i = elim (cases_eq k i) [
+  | inl same ↦ ap (λ z. unit (a + k) (a + z)) (sym same) ∙ unit_same (a + k) ∙ sym (unit_same k) ∙ ap (unit k) same
+  | inr other ↦ unit_other (a + k) (a + i) (λ e. other (omega arith)) ∙ sym (unit_other k i other)
 ]
 
 module _ (r : ℕ) (M : Graded) (d : ℕ) where
@@ -76,8 +68,8 @@ module _ (r : ℕ) (M : Graded) (d : ℕ) where
   multiples_unit g k w j from below =
       let f : ℕ → ℕ = λ i. unit k i * M.act (exponents 6 r (d - g) i) g d w j in
       cond-true {A = ℕ} (leb g d) (sum_below (λ i. unit k i * M.act (exponents 6 r (d - g) i) g d w j) (count r (d - g))) 0 (le-leb g d from)
-      ∙ sum_below_only (λ i. unit k i * M.act (exponents 6 r (d - g) i) g d w j) (count r (d - g)) k below (λ i b other. ap (λ z. z * M.act (exponents 6 r (d - g) i) g d w j) (unit_elsewhere k i (λ e. other (sym e))) ∙ nothing (M.act (exponents 6 r (d - g) i) g d w j))
-      ∙ ap (λ z. z * M.act (exponents 6 r (d - g) k) g d w j) (unit_here k k refl) ∙ once (M.act (exponents 6 r (d - g) k) g d w j)
+      ∙ sum_below_only (λ i. unit k i * M.act (exponents 6 r (d - g) i) g d w j) (count r (d - g)) k below (λ i b other. ap (λ z. z * M.act (exponents 6 r (d - g) i) g d w j) (unit_other k i (λ e. other (sym e))) ∙ nothing (M.act (exponents 6 r (d - g) i) g d w j))
+      ∙ ap (λ z. z * M.act (exponents 6 r (d - g) k) g d w j) (unit_same k) ∙ once (M.act (exponents 6 r (d - g) k) g d w j)
     where
       nothing : (x : ℕ) → 0 * x ≡ 0
       nothing x = omega arith
@@ -94,7 +86,7 @@ module _ (r : ℕ) (M : Graded) (d : ℕ) where
       let size : (moved g (polynomials r)).dim d ≡ count r (d - g) = moved_dim (polynomials r) g d from ∙ polynomials_dim r (d - g) in
       let start : 0 + k ≡ k = omega arith in
       let first : multiples r M g (ws 0) d (unit k) j ≡ M.act (exponents 6 r (d - g) k) g d (ws 0) j = multiples_unit g k (ws 0) j from below in
-      let rest : extension r M gs (λ h. ws (suc h)) d (λ i. unit k ((moved g (polynomials r)).dim d + i)) j ≡ 0 = extension_none gs (λ h. ws (suc h)) (λ i. unit k ((moved g (polynomials r)).dim d + i)) j (λ i. unit_elsewhere k ((moved g (polynomials r)).dim d + i) (λ e. absurd (omega (arith, size, below, e)))) in
+      let rest : extension r M gs (λ h. ws (suc h)) d (λ i. unit k ((moved g (polynomials r)).dim d + i)) j ≡ 0 = extension_none gs (λ h. ws (suc h)) (λ i. unit k ((moved g (polynomials r)).dim d + i)) j (λ i. unit_other k ((moved g (polynomials r)).dim d + i) (λ e. absurd (omega (arith, size, below, e)))) in
       ap (λ z. multiples r M g (ws 0) d (unit z) j + extension r M gs (λ h. ws (suc h)) d (λ i. unit z ((moved g (polynomials r)).dim d + i)) j) start
       ∙ ap₂ (λ x y. x + y) first rest ∙ plain (M.act (exponents 6 r (d - g) k) g d (ws 0) j)
     where
@@ -106,7 +98,7 @@ module _ (r : ℕ) (M : Graded) (d : ℕ) where
       let t : ℕ = total (block_dim (polynomials r) d) (take h gs) + k in
       let at : ((moved g (polynomials r)).dim d + total (block_dim (polynomials r) d) (take h gs)) + k ≡ (moved g (polynomials r)).dim d + (total (block_dim (polynomials r) d) (take h gs) + k) = omega arith in
       let first : multiples r M g (ws 0) d (unit ((moved g (polynomials r)).dim d + (total (block_dim (polynomials r) d) (take h gs) + k))) j ≡ 0 =
-      multiples_none g (ws 0) (unit ((moved g (polynomials r)).dim d + (total (block_dim (polynomials r) d) (take h gs) + k))) j (λ i b. unit_elsewhere ((moved g (polynomials r)).dim d + (total (block_dim (polynomials r) d) (take h gs) + k)) i (λ e. absurd (omega (arith, b, e)))) in
+      multiples_none g (ws 0) (unit ((moved g (polynomials r)).dim d + (total (block_dim (polynomials r) d) (take h gs) + k))) j (λ i b. unit_other ((moved g (polynomials r)).dim d + (total (block_dim (polynomials r) d) (take h gs) + k)) i (λ e. absurd (omega (arith, b, e)))) in
       let onward : (λ i. unit ((moved g (polynomials r)).dim d + (total (block_dim (polynomials r) d) (take h gs) + k)) ((moved g (polynomials r)).dim d + i)) ≡ unit (total (block_dim (polynomials r) d) (take h gs) + k) = fun_ext (λ i. unit_moved ((moved g (polynomials r)).dim d) (total (block_dim (polynomials r) d) (take h gs) + k) i) in
       ap (λ z. multiples r M g (ws 0) d (unit z) j + extension r M gs (λ h. ws (suc h)) d (λ i. unit z ((moved g (polynomials r)).dim d + i)) j) at
       ∙ ap₂ (λ x y. x + y) first (ap (λ w. extension r M gs (λ h. ws (suc h)) d w j) onward ∙ extension_unit gs (λ h. ws (suc h)) h k j (omega arith) from below)

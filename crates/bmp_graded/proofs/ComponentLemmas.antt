@@ -22,7 +22,7 @@ component_at r d (suc h) (g ∷ gs) v m inside =
     let same : (moved g (polynomials r)).dim d + (start_of r gs d h + place r m) ≡ ((moved g (polynomials r)).dim d + start_of r gs d h) + place r m = omega arith in
     component_at r d h gs (λ i. v ((moved g (polynomials r)).dim d + i)) m (omega arith) ∙ ap v same
 
-count_none : (r : ℕ) → count r 0 ≡ 1
+pub count_none : (r : ℕ) → count r 0 ≡ 1
 unfolding count sum_below
 count_none zero = refl
 count_none (suc r) = let same : 0 + count r 0 ≡ count r 0 = omega arith in same ∙ count_none r

@@ -1,6 +1,6 @@
 -- A polynomial times an element: a monomial may be taken out.
-use Rattle.std.proofs.Common.{◌≡◌, ℕ, zero, suc, ◌+◌, ◌-◌, ◌*◌, ◌%◌, ◌<◌, ◌≤◌, true, cond, eqb, leb, leb-true, List, [], ◌∷◌, length, refl, sym, ap, ap₂, ◌∙◌, inl, inr, arith, eq-eqb, ne_eqb}
-use Rattle.std.proofs.lemmas.Bool.{cases_Bool, cond-true, cond-false, and_parts, and_from, le-leb, both_ways}
+use Rattle.std.proofs.Common.{◌≡◌, ℕ, zero, suc, ◌+◌, ◌*◌, ◌%◌, ◌<◌, ◌≤◌, true, cond, eqb, List, length, refl, sym, ap, ◌∙◌, inl, inr, arith, eq-eqb, ne_eqb}
+use Rattle.std.proofs.lemmas.Bool.{cases_Bool, cond-true, cond-false, both_ways}
 use Rattle.bmp_math.specs.Sums.{sum_below}
 use Rattle.bmp_math.proofs.CongruenceLemmas.{same_add, same_mul}
 use Rattle.bmp_math.proofs.SumLemmas.{sum_below_same, sum_below-zeros, sum_below-mul, sum_below-swap, sum_below_only, sum_same_mod}
@@ -9,37 +9,17 @@ use Rattle.bmp_poly.proofs.PlaceLemmas.{exponents_stand, exponents-place, place_
 use Rattle.bmp_poly.proofs.MonomialLemmas.{same_place}
 use Rattle.bmp_math.specs.Vectors.{SameVector, IsLinear}
 use Rattle.bmp_poly.specs.Shifts.{contains, less, joined, shift}
-use Rattle.bmp_poly.proofs.ShiftLemmas.{less_monomial, joined_monomial}
+use Rattle.bmp_poly.proofs.ShiftLemmas.{less_monomial, joined_monomial, less-of_joined, contains-of_joined, joined-less}
+use Rattle.bmp_poly.proofs.ProductLemmas.{joined-comm}
 use Rattle.bmp_graded.specs.Graded.{Graded, IsModule}
 use Rattle.bmp_graded.specs.Modules.{polynomials}
 use Rattle.bmp_graded.proofs.GradedLemmas.{linear_zero}
-use Rattle.bmp_graded.specs.Maps.{multiple_of}
 
 contains_own : (x m : List ℕ) → length x ≡ length m → contains (joined x m) m ≡ true
-unfolding contains joined
-contains_own [] [] l = refl
-contains_own [] (y ∷ m) l = absurd (let a : 0 ≡ suc (length m) = l in omega arith)
-contains_own (x ∷ e) [] l = absurd (let a : suc (length e) ≡ 0 = l in omega arith)
-contains_own (x ∷ e) (y ∷ m) l = let s : suc (length e) ≡ suc (length m) = l in and_from (leb y (x + y)) (contains (joined e m) m) (le-leb y (x + y) (omega arith)) (contains_own e m (omega arith))
+contains_own x m l = ap (λ z. contains z m) (joined-comm x m) ∙ contains-of_joined m x (sym l)
 
 less_own : (x m : List ℕ) → length x ≡ length m → less (joined x m) m ≡ x
-unfolding less joined
-less_own [] [] l = refl
-less_own [] (y ∷ m) l = absurd (let a : 0 ≡ suc (length m) = l in omega arith)
-less_own (x ∷ e) [] l = absurd (let a : suc (length e) ≡ 0 = l in omega arith)
-less_own (x ∷ e) (y ∷ m) l = let s : suc (length e) ≡ suc (length m) = l in let first : (x + y) - y ≡ x = omega arith in ap₂ (λ (a : ℕ) (b : List ℕ). a ∷ b) first (less_own e m (omega arith))
-
-joined_less : (e m : List ℕ) → length e ≡ length m → contains e m ≡ true → joined (less e m) m ≡ e
-unfolding contains less joined
-joined_less [] [] l h = refl
-joined_less [] (y ∷ m) l h = absurd (let a : 0 ≡ suc (length m) = l in omega arith)
-joined_less (x ∷ e) [] l h = absurd (let a : suc (length e) ≡ 0 = l in omega arith)
-joined_less (x ∷ e) (y ∷ m) l h =
-    let s : suc (length e) ≡ suc (length m) = l in
-    let parts = and_parts (leb y x) (contains e m) h in
-    let le : y ≤ x = leb-true y x parts.0 in
-    let first : (x - y) + y ≡ x = omega arith in
-    ap₂ (λ (a : ℕ) (b : List ℕ). a ∷ b) first (joined_less e m (omega arith) parts.1)
+less_own x m l = ap (λ z. less z m) (joined-comm x m) ∙ less-of_joined m x (sym l)
 
 pub linear_sum : (p n m : ℕ) (map : (ℕ → ℕ) → ℕ → ℕ) → IsLinear p n m map → (u : ℕ → ℕ) (f : ℕ → ℕ → ℕ) (k : ℕ) → SameVector p m (map (λ j. sum_below (λ i. u i * f i j) k)) (λ j. sum_below (λ i. u i * map (f i) j) k)
 unfolding sum_below
@@ -71,7 +51,7 @@ module _ (r d k t : ℕ) (m : List ℕ) (wide : r ≤ 6) (is : IsMonomial 6 r k 
             let is_x : IsMonomial 6 r d (less (exponents 6 r t j) m) = less_monomial 6 r d k t (exponents 6 r t j) m there.monomial is total fits in
             let i = place r (less (exponents 6 r t j) m) in
             let below : place r (less (exponents 6 r t j) m) < count r d = place_below 6 r d (less (exponents 6 r t j) m) wide is_x in
-            let here : at (place r (less (exponents 6 r t j) m)) ≡ j = ap (λ z. place r (joined z m)) (exponents-place 6 r d (less (exponents 6 r t j) m) wide is_x) ∙ ap (place r) (joined_less (exponents 6 r t j) m same fits) ∙ there.place_is in
+            let here : at (place r (less (exponents 6 r t j) m)) ≡ j = ap (λ z. place r (joined z m)) (exponents-place 6 r d (less (exponents 6 r t j) m) wide is_x) ∙ ap (place r) (joined-comm (less (exponents 6 r t j) m) m ∙ joined-less (exponents 6 r t j) m same fits) ∙ there.place_is in
             cond-true {A = ℕ} (contains (exponents 6 r t j) m) (u (place r (less (exponents 6 r t j) m))) 0 fits
             ∙ sym (sum_below_only (λ i. u i * cond (eqb (at i) j) 1 0) (count r d) (place r (less (exponents 6 r t j) m)) below (λ i li other. times_none (u i) (at i) j (λ e. other (sym (stands i li).place_is ∙ ap (place r) (sym (less_own (exponents 6 r d i) m ((stands i li).monomial.long ∙ sym is.long)) ∙ ap (λ z. less z m) (meets i li e)))))
             ∙ times_one (u (place r (less (exponents 6 r t j) m))) (at (place r (less (exponents 6 r t j) m))) j here)
@@ -117,8 +97,8 @@ module _ (r d k t : ℕ) (m : List ℕ) (wide : r ≤ 6) (is : IsMonomial 6 r k 
   at_is i l = exponents-place 6 r t (joined (exponents 6 r d i) m) wide (up i l)
 
   -- a monomial times a multiple is the multiple by the shifted polynomial
-  pub multiple_acts : (p g : ℕ) (M : Graded) → IsModule p r M → (w u : ℕ → ℕ) → SameVector p (M.dim (g + t)) (multiple_of r M g w t ((polynomials r).act m d t u)) (M.act m (g + d) (g + t) (multiple_of r M g w d u))
-  unfolding multiple_of polynomials
+  pub multiple_acts : (p g : ℕ) (M : Graded) → IsModule p r M → (w u : ℕ → ℕ) → SameVector p (M.dim (g + t)) (λ j. sum_below (λ i. (polynomials r).act m d t u i * M.act (exponents 6 r t i) g (g + t) w j) (count r t)) (M.act m (g + d) (g + t) (λ j. sum_below (λ i. u i * M.act (exponents 6 r d i) g (g + d) w j) (count r d)))
+  unfolding polynomials
   multiple_acts p g M laws w u j l =
       let degrees : (g + d) + k ≡ g + t = omega arith in
       ap (λ z. z % p) (gathered u (λ i. M.act (exponents 6 r t i) g (g + t) w j))

@@ -1,15 +1,14 @@
 -- The linear extension of a list of lifts is a module map.
-use Rattle.std.proofs.Common.{◌≡◌, ℕ, suc, ◌+◌, ◌-◌, ◌*◌, ◌%◌, ◌≤◌, true, false, leb, List, [], ◌∷◌, refl, sym, ap, subst, ◌∙◌, inl, inr, arith}
+use Rattle.std.proofs.Common.{◌≡◌, ℕ, suc, ◌+◌, ◌-◌, ◌*◌, ◌%◌, ◌≤◌, true, false, leb, List, [], ◌∷◌, sym, ap, subst, ◌∙◌, inl, inr, arith}
 use Rattle.std.proofs.lemmas.Bool.{cases_lt, cond-true, cond-false, lt-leb, le-leb}
 use Rattle.bmp_math.specs.Sums.{sum_below}
-use Rattle.bmp_math.proofs.CongruenceLemmas.{same_mul}
-use Rattle.bmp_math.proofs.SumLemmas.{sum_below_same, sum_below-add, sum_below-mul, sum_same_mod}
+use Rattle.bmp_math.specs.Matrices.{Matrix, image}
+use Rattle.bmp_math.proofs.MatrixLemmas.{image_is_linear}
 use Rattle.bmp_poly.specs.Exponents.{IsMonomial, count, exponents}
 use Rattle.bmp_math.specs.Vectors.{SameVector, IsLinear}
 use Rattle.bmp_graded.specs.Graded.{Graded, IsModule}
 use Rattle.bmp_graded.specs.Modules.{polynomials, moved, copies, free}
-use Rattle.bmp_graded.proofs.GradedLemmas.{linear_zero}
-use Rattle.bmp_graded.specs.Maps.{multiple_of}
+use Rattle.bmp_graded.proofs.GradedLemmas.{linear_zero, cond_linear, narrower_module}
 use Rattle.bmp_graded.proofs.ExtensionLaws.{multiple_acts}
 use Rattle.bmp_graded.specs.Graded.{IsModuleMap}
 use Rattle.bmp_graded.specs.Maps.{multiples, extension}
@@ -18,35 +17,16 @@ use Rattle.bmp_graded.proofs.ModuleMaps.{nothing_map, sum_of_maps}
 module _ (p r g : ℕ) (wide : r ≤ 6) (M : Graded) (laws : IsModule p r M) (w : ℕ → ℕ) where
   one_linear : (d : ℕ) → IsLinear p ((moved g (polynomials r)).dim d) (M.dim d) (multiples r M g w d)
   unfolding moved polynomials multiples
-  one_linear d = elim (cases_lt d g) [
-    | inl before ↦ let off : leb g d ≡ false = lt-leb g d before in record {
-      respects = λ u v h j l. rw off refl;
-      sums = λ u v j l. rw off refl;
-      multiples = λ c v j l. rw off (let none : 0 ≡ c * 0 = omega arith in ap (λ z. z % p) none);
-    }
-    | inr from ↦ let on : leb g d ≡ true = le-leb g d from in record {
-      respects = λ u v h j l. rw on (sum_same_mod p (λ i. u i * M.act (exponents 6 r (d - g) i) g d w j) (λ i. v i * M.act (exponents 6 r (d - g) i) g d w j) (count r (d - g)) (λ i b. let same = rw on at h in same_mul p (u i) (v i) (M.act (exponents 6 r (d - g) i) g d w j) (M.act (exponents 6 r (d - g) i) g d w j) (same i b) refl));
-      sums = λ u v j l. rw on (ap (λ z. z % p) (sum_below_same (λ i. (u i + v i) * M.act (exponents 6 r (d - g) i) g d w j) (λ i. u i * M.act (exponents 6 r (d - g) i) g d w j + v i * M.act (exponents 6 r (d - g) i) g d w j) (count r (d - g)) (λ i b. spread (u i) (v i) (M.act (exponents 6 r (d - g) i) g d w j)) ∙ sum_below-add (λ i. u i * M.act (exponents 6 r (d - g) i) g d w j) (λ i. v i * M.act (exponents 6 r (d - g) i) g d w j) (count r (d - g))));
-      multiples = λ c v j l. rw on (ap (λ z. z % p) (sum_below_same (λ i. (c * v i) * M.act (exponents 6 r (d - g) i) g d w j) (λ i. c * (v i * M.act (exponents 6 r (d - g) i) g d w j)) (count r (d - g)) (λ i b. bracket c (v i) (M.act (exponents 6 r (d - g) i) g d w j)) ∙ sum_below-mul c (λ i. v i * M.act (exponents 6 r (d - g) i) g d w j) (count r (d - g))));
-    }
-  ]
-    where
-      spread : (a b c : ℕ) → (a + b) * c ≡ a * c + b * c
-      spread a b c = omega arith
-
-      bracket : (a b c : ℕ) → (a * b) * c ≡ a * (b * c)
-      bracket a b c = omega arith
-
-  plain : (m : List ℕ) (k a b : ℕ) (u : ℕ → ℕ) → IsMonomial 6 r k m → a + k ≡ b → SameVector p (M.dim (g + b)) (λ j. sum_below (λ i. (polynomials r).act m a b u i * M.act (exponents 6 r b i) g (g + b) w j) (count r b)) (M.act m (g + a) (g + b) (λ j. sum_below (λ i. u i * M.act (exponents 6 r a i) g (g + a) w j) (count r a)))
-  unfolding multiple_of
-  plain m k a b u is total = multiple_acts r a k b m wide is total p g M laws w u
+  one_linear d =
+      let a : Matrix = record { rows = M.dim d; cols = count r (d - g); entry = λ j i. M.act (exponents 6 r (d - g) i) g d w j } in
+      cond_linear (leb g d) p a.cols a.rows (image a) (λ on. image_is_linear p a)
 
   -- the law of the act, where both degrees are the generator's and a number
   at_degrees : (m : List ℕ) (k a b d t : ℕ) (u : ℕ → ℕ) → IsMonomial 6 r k m → a + k ≡ b → g + a ≡ d → g + b ≡ t → SameVector p (M.dim t) (λ j. sum_below (λ i. (polynomials r).act m a b u i * M.act (exponents 6 r b i) g t w j) (count r b)) (M.act m d t (λ j. sum_below (λ i. u i * M.act (exponents 6 r a i) g d w j) (count r a)))
   at_degrees m k a b d t u is total is_d is_t =
       let Q : ℕ → Type 0 = λ y. SameVector p (M.dim y) (λ j. sum_below (λ i. (polynomials r).act m a b u i * M.act (exponents 6 r b i) g y w j) (count r b)) (M.act m d y (λ j. sum_below (λ i. u i * M.act (exponents 6 r a i) g d w j) (count r a))) in
       let P : ℕ → Type 0 = λ z. SameVector p (M.dim (g + b)) (λ j. sum_below (λ i. (polynomials r).act m a b u i * M.act (exponents 6 r b i) g (g + b) w j) (count r b)) (M.act m z (g + b) (λ j. sum_below (λ i. u i * M.act (exponents 6 r a i) g z w j) (count r a))) in
-      subst Q is_t (subst P is_d (plain m k a b u is total))
+      subst Q is_t (subst P is_d (multiple_acts r a k b m wide is total p g M laws w u))
 
   pub one_map : IsModuleMap p r (moved g (polynomials r)) M (multiples r M g w)
   unfolding moved multiples
@@ -74,5 +54,6 @@ extension_map p r M (g ∷ gs) ws wide laws =
     sum_of_maps p r (moved g (polynomials r)) (free r gs) M (multiples r M g (ws 0)) (extension r M gs (λ h. ws (suc h))) laws
     (one_map p r g wide M laws (ws 0)) (extension_map p r M gs (λ h. ws (suc h)) wide laws)
 
-pub extension_over : (p r r' : ℕ) (M : Graded) (degrees : List ℕ) (ws : ℕ → ℕ → ℕ) → r' ≡ r → r ≤ 6 → IsModule p r' M → IsModuleMap p r (free r degrees) M (extension r M degrees ws)
-extension_over p r r' M degrees ws same wide laws = extension_map p r M degrees ws wide (rw same at laws)
+-- into a module over these variables and further ones
+pub extension_over : (p r r' : ℕ) (M : Graded) (degrees : List ℕ) (ws : ℕ → ℕ → ℕ) → r ≤ r' → r ≤ 6 → IsModule p r' M → IsModuleMap p r (free r degrees) M (extension r M degrees ws)
+extension_over p r r' M degrees ws fewer wide laws = extension_map p r M degrees ws wide (narrower_module p r r' M fewer laws)

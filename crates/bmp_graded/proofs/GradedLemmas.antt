@@ -1,5 +1,5 @@
 -- The module laws of polynomials, of moved modules and of sums.
-use Rattle.std.proofs.Common.{◌≡◌, ℕ, suc, ◌+◌, ◌-◌, ◌*◌, ◌%◌, ◌<◌, ◌≤◌, Bool, true, false, cond, leb, ltb, List, [], ◌∷◌, length, refl, sym, ap, ◌∙◌, inl, inr, arith}
+use Rattle.std.proofs.Common.{◌≡◌, ℕ, suc, ◌+◌, ◌-◌, ◌*◌, ◌%◌, ◌<◌, ◌≤◌, Bool, true, false, cond, leb, leb-true, ltb, List, [], ◌∷◌, length, refl, sym, ap, ◌∙◌, inl, inr, arith}
 use Rattle.std.specs.List.{All}
 use Rattle.std.proofs.lemmas.Bool.{cases_Bool, cases_lt, cond-true, cond-false, lt-leb, le-leb, lt-ltb, le-ltb}
 use Rattle.bmp_poly.specs.Exponents.{IsMonomial, place, exponents, zeros}
@@ -9,6 +9,17 @@ use Rattle.bmp_poly.specs.Shifts.{contains, less, joined}
 use Rattle.bmp_graded.specs.Graded.{Graded, IsModule}
 use Rattle.bmp_graded.specs.Modules.{polynomials, moved, nothing, both, copies, free, direct_sum}
 use Rattle.bmp_poly.proofs.ShiftLemmas.{less_monomial, contains-joined, contains-joined_false, less-joined, contains-zeros, less-zeros}
+
+-- a monomial in some variables is one in these and further ones, so a module over more variables is one over fewer
+pub wider_monomial : (r r' k : ℕ) (m : List ℕ) → r ≤ r' → IsMonomial 6 r k m → IsMonomial 6 r' k m
+wider_monomial r r' k m fewer is = record { long = is.long; size = is.size; past = λ i from. is.past i (omega (arith, fewer, from)) }
+
+pub narrower_module : (p r r' : ℕ) (M : Graded) → r ≤ r' → IsModule p r' M → IsModule p r M
+narrower_module p r r' M fewer laws = record {
+  linear = λ m k d t is. laws.linear m k d t (wider_monomial r r' k m fewer is);
+  one = laws.one;
+  after = λ m n k h d t u v is_m is_n. laws.after m n k h d t u v (wider_monomial r r' k m fewer is_m) (wider_monomial r r' h n fewer is_n);
+}
 
 pub nothing_is_module : (p r : ℕ) → IsModule p r nothing
 unfolding nothing
@@ -66,27 +77,38 @@ linear_zero p n m map linear w none j l =
     nil : (x : ℕ) → 0 ≡ 0 * x
     nil x = omega arith
 
+-- a linear map or 0
+pub cond_linear : (b : Bool) (p n m : ℕ) (f : (ℕ → ℕ) → ℕ → ℕ) → (b ≡ true → IsLinear p n m f) → IsLinear p (cond b n 0) m (λ u j. cond b (f u j) 0)
+cond_linear true p n m f inner = inner refl
+cond_linear false p n m f inner = record { respects = λ u v h j l. refl; sums = λ u v j l. refl; multiples = λ c v j l. ap (λ z. z % p) (none c) }
+  where
+    none : (c : ℕ) → 0 ≡ c * 0
+    none c = omega arith
+
+-- two linear maps, one on each part of a vector
+pub both_linear : (p n n' m m' : ℕ) (f g : (ℕ → ℕ) → ℕ → ℕ) → IsLinear p n m f → IsLinear p n' m' g → IsLinear p (n + n') (m + m') (λ u j. cond (ltb j m) (f u j) (g (λ i. u (n + i)) (j - m)))
+both_linear p n n' m m' f g F G = record {
+  respects = λ u v h j l. elim (cases_lt j m) [
+    | inl first ↦ rw (lt-ltb j m first) (F.respects u v (λ i k. h i (omega arith)) j first)
+    | inr second ↦ rw (le-ltb j m second) (G.respects (λ i. u (n + i)) (λ i. v (n + i)) (λ i k. h (n + i) (omega arith)) (j - m) (omega arith))
+  ];
+  sums = λ u v j l. elim (cases_lt j m) [
+    | inl first ↦ rw (lt-ltb j m first) (F.sums u v j first)
+    | inr second ↦ rw (le-ltb j m second) (G.sums (λ i. u (n + i)) (λ i. v (n + i)) (j - m) (omega arith))
+  ];
+  multiples = λ c v j l. elim (cases_lt j m) [
+    | inl first ↦ rw (lt-ltb j m first) (F.multiples c v j first)
+    | inr second ↦ rw (le-ltb j m second) (G.multiples c (λ i. v (n + i)) (j - m) (omega arith))
+  ];
+}
+
 pub moved_is_module : (p r g : ℕ) (M : Graded) → IsModule p r M → IsModule p r (moved g M)
 unfolding moved
 moved_is_module p r g M laws = record {
-  linear = λ m k d t is e. elim (cases_lt d g) [
-    | inl before ↦
-        let off : leb g d ≡ false = lt-leb g d before in
-        record {
-          respects = λ u v h j l. rw off refl;
-          sums = λ u v j l. rw off refl;
-          multiples = λ c v j l. rw off (let none : 0 ≡ c * 0 = omega arith in ap (λ z. z % p) none);
-        }
-    | inr from ↦
-        let on : leb g d ≡ true = le-leb g d from in
-        let on_t : leb g t ≡ true = le-leb g t (omega arith) in
-        let inner : IsLinear p (M.dim (d - g)) (M.dim (t - g)) (M.act m (d - g) (t - g)) = laws.linear m k (d - g) (t - g) is (omega arith) in
-        record {
-          respects = λ u v h j l. rw on (inner.respects u v (rw on at h) j (rw on_t at l));
-          sums = λ u v j l. rw on (inner.sums u v j (rw on_t at l));
-          multiples = λ c v j l. rw on (inner.multiples c v j (rw on_t at l));
-        }
-  ];
+  linear = λ m k d t is e. cond_linear (leb g d) p (M.dim (d - g)) (cond (leb g t) (M.dim (t - g)) 0) (M.act m (d - g) (t - g)) (λ on.
+      let from : g ≤ d = leb-true g d on in
+      let on_t : leb g t ≡ true = le-leb g t (omega arith) in
+      rw on_t (laws.linear m k (d - g) (t - g) is (omega arith)));
   one = λ d v. elim (cases_lt d g) [
     | inl before ↦ let off : leb g d ≡ false = lt-leb g d before in λ j l. absurd (let none = rw off at l in omega arith)
     | inr from ↦ let on : leb g d ≡ true = le-leb g d from in λ j l. rw on (laws.one (d - g) v j (rw on at l))
@@ -118,23 +140,7 @@ moved_is_module p r g M laws = record {
 pub both_is_module : (p r : ℕ) (A B : Graded) → IsModule p r A → IsModule p r B → IsModule p r (both A B)
 unfolding both
 both_is_module p r A B a b = record {
-  linear = λ m k d t is e.
-      let in_a : IsLinear p (A.dim d) (A.dim t) (A.act m d t) = a.linear m k d t is e in
-      let in_b : IsLinear p (B.dim d) (B.dim t) (B.act m d t) = b.linear m k d t is e in
-      record {
-        respects = λ u v h j l. elim (cases_lt j (A.dim t)) [
-          | inl first ↦ rw (lt-ltb j (A.dim t) first) (in_a.respects u v (λ i k. h i (omega arith)) j first)
-          | inr second ↦ rw (le-ltb j (A.dim t) second) (in_b.respects (λ i. u (A.dim d + i)) (λ i. v (A.dim d + i)) (λ i k. h (A.dim d + i) (omega arith)) (j - A.dim t) (omega arith))
-        ];
-        sums = λ u v j l. elim (cases_lt j (A.dim t)) [
-          | inl first ↦ rw (lt-ltb j (A.dim t) first) (in_a.sums u v j first)
-          | inr second ↦ rw (le-ltb j (A.dim t) second) (in_b.sums (λ i. u (A.dim d + i)) (λ i. v (A.dim d + i)) (j - A.dim t) (omega arith))
-        ];
-        multiples = λ c v j l. elim (cases_lt j (A.dim t)) [
-          | inl first ↦ rw (lt-ltb j (A.dim t) first) (in_a.multiples c v j first)
-          | inr second ↦ rw (le-ltb j (A.dim t) second) (in_b.multiples c (λ i. v (A.dim d + i)) (j - A.dim t) (omega arith))
-        ];
-      };
+  linear = λ m k d t is e. both_linear p (A.dim d) (B.dim d) (A.dim t) (B.dim t) (A.act m d t) (B.act m d t) (a.linear m k d t is e) (b.linear m k d t is e);
   one = λ d v j l. elim (cases_lt j (A.dim d)) [
     | inl first ↦ rw (lt-ltb j (A.dim d) first) (a.one d v j first)
     | inr second ↦ let back : A.dim d + (j - A.dim d) ≡ j = omega arith in rw (le-ltb j (A.dim d) second) (b.one d (λ i. v (A.dim d + i)) (j - A.dim d) (omega arith) ∙ ap (λ i. v i % p) back)

@@ -12,7 +12,7 @@ pub mod ExtensionMaps
 pub mod ProjectionMaps
 pub mod Congruences
 pub mod ComponentLemmas
-pub mod ReducedActs
 pub mod TupleLemmas
 pub mod NormalLaws
 pub mod BlockActs
+pub mod Generators

@@ -1,11 +1,12 @@
 -- Module maps of sums, of moved modules, of copies, and one after another.
 use Rattle.std.proofs.Common.{◌≡◌, ℕ, ◌+◌, ◌-◌, ◌*◌, ◌%◌, ◌<◌, true, false, cond, leb, ltb, List, [], ◌∷◌, refl, sym, ap, ◌∙◌, inl, inr, arith}
 use Rattle.std.proofs.lemmas.Bool.{cases_lt, cond-true, cond-false, lt-leb, le-leb, lt-ltb, le-ltb}
+use Rattle.bmp_math.specs.Vectors.{IsLinear}
 use Rattle.bmp_math.proofs.CongruenceLemmas.{same_add}
 use Rattle.bmp_graded.specs.Graded.{Graded, IsModule}
 use Rattle.bmp_graded.specs.Modules.{moved, both, nothing, copies}
 use Rattle.bmp_graded.specs.Maps.{blockwise}
-use Rattle.bmp_graded.proofs.GradedLemmas.{linear_zero, nothing_is_module, moved_is_module, copies_is_module}
+use Rattle.bmp_graded.proofs.GradedLemmas.{linear_zero, both_linear, nothing_is_module, moved_is_module, copies_is_module}
 use Rattle.bmp_graded.specs.Graded.{IsModuleMap}
 
 pub nothing_map : (p r : ℕ) (N : Graded) → IsModule p r N → IsModuleMap p r nothing N (λ d u j. 0)
@@ -49,20 +50,7 @@ sum_of_maps p r A B N f g laws F G = record {
 pub both_map : (p r : ℕ) (A B M N : Graded) (f g : ℕ → (ℕ → ℕ) → ℕ → ℕ) → IsModule p r M → IsModule p r N → IsModuleMap p r A M f → IsModuleMap p r B N g → IsModuleMap p r (both A B) (both M N) (λ d u j. cond (ltb j (M.dim d)) (f d u j) (g d (λ i. u (A.dim d + i)) (j - M.dim d)))
 unfolding both
 both_map p r A B M N f g in_m in_n F G = record {
-  linear = λ d. record {
-    respects = λ u v h j l. elim (cases_lt j (M.dim d)) [
-      | inl first ↦ rw (lt-ltb j (M.dim d) first) ((F.linear d).respects u v (λ i b. h i (omega arith)) j first)
-      | inr second ↦ rw (le-ltb j (M.dim d) second) ((G.linear d).respects (λ i. u (A.dim d + i)) (λ i. v (A.dim d + i)) (λ i b. h (A.dim d + i) (omega arith)) (j - M.dim d) (omega arith))
-    ];
-    sums = λ u v j l. elim (cases_lt j (M.dim d)) [
-      | inl first ↦ rw (lt-ltb j (M.dim d) first) ((F.linear d).sums u v j first)
-      | inr second ↦ rw (le-ltb j (M.dim d) second) ((G.linear d).sums (λ i. u (A.dim d + i)) (λ i. v (A.dim d + i)) (j - M.dim d) (omega arith))
-    ];
-    multiples = λ c v j l. elim (cases_lt j (M.dim d)) [
-      | inl first ↦ rw (lt-ltb j (M.dim d) first) ((F.linear d).multiples c v j first)
-      | inr second ↦ rw (le-ltb j (M.dim d) second) ((G.linear d).multiples c (λ i. v (A.dim d + i)) (j - M.dim d) (omega arith))
-    ];
-  };
+  linear = λ d. both_linear p (A.dim d) (B.dim d) (M.dim d) (N.dim d) (f d) (g d) (F.linear d) (G.linear d);
   acts = λ m k d t v is e j l.
       let w = λ (i : ℕ). cond (ltb i (A.dim t)) (A.act m d t v i) (B.act m d t (λ a. v (A.dim d + a)) (i - A.dim t)) in
       elim (cases_lt j (M.dim t)) [
@@ -84,17 +72,9 @@ both_map p r A B M N f g in_m in_n F G = record {
 pub moved_map : (p r g : ℕ) (A M : Graded) (f : ℕ → (ℕ → ℕ) → ℕ → ℕ) → IsModuleMap p r A M f → IsModuleMap p r (moved g A) (moved g M) (λ d. f (d - g))
 unfolding moved
 moved_map p r g A M f F = record {
-  linear = λ d. elim (cases_lt d g) [
-    | inl before ↦ let off : leb g d ≡ false = lt-leb g d before in record {
-      respects = λ u v h j l. absurd (let none = rw off at l in omega arith);
-      sums = λ u v j l. absurd (let none = rw off at l in omega arith);
-      multiples = λ c v j l. absurd (let none = rw off at l in omega arith);
-    }
-    | inr from ↦ let on : leb g d ≡ true = le-leb g d from in record {
-      respects = λ u v h j l. (F.linear (d - g)).respects u v (rw on at h) j (rw on at l);
-      sums = λ u v j l. (F.linear (d - g)).sums u v j (rw on at l);
-      multiples = λ c v j l. (F.linear (d - g)).multiples c v j (rw on at l);
-    }
+  linear = λ d. elim (leb g d) as (λ b. IsLinear p (cond b (A.dim (d - g)) 0) (cond b (M.dim (d - g)) 0) (f (d - g))) [
+    | true ↦ F.linear (d - g)
+    | false ↦ record { respects = λ u v h j l. absurd (omega arith); sums = λ u v j l. absurd (omega arith); multiples = λ c v j l. absurd (omega arith) }
   ];
   acts = λ m k d t v is e j l. elim (cases_lt t g) [
     | inl early ↦ absurd (let off : leb g t ≡ false = lt-leb g t early in let none = rw off at l in omega arith)

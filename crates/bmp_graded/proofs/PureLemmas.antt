@@ -19,29 +19,6 @@ exponents_narrower w zero d i wide = take_zeros w
 exponents_narrower zero (suc r) d i wide = absurd (omega arith)
 exponents_narrower (suc w) (suc r) d i wide = let j = level (count r) i d in ap (λ (m : List ℕ). (d - j) ∷ m) (exponents_narrower w r j (i - sum_below (count r) j) (omega arith))
 
-sum_padded : (m : List ℕ) → sum (m ++ 0 ∷ []) ≡ sum m
-sum_padded [] = refl
-sum_padded (x ∷ m) = omega (arith, sum-cons x (m ++ 0 ∷ []), sum-cons x m, sum_padded m)
-
-pub place_padded : (r : ℕ) (m : List ℕ) → r ≤ length m → place r (m ++ 0 ∷ []) ≡ place r m
-unfolding place
-place_padded zero m wide = refl
-place_padded (suc r) [] wide = absurd (let none : suc r ≤ 0 = wide in omega arith)
-place_padded (suc r) (x ∷ m) wide = let rest : suc r ≤ suc (length m) = wide in ap₂ (λ a b. sum_below (count r) a + b) (sum_padded m) (place_padded r m (omega arith))
-
-padded_at : (m : List ℕ) (k : ℕ) → get_or m k 0 ≡ 0 → get_or (m ++ 0 ∷ []) k 0 ≡ 0
-padded_at [] zero h = refl
-padded_at [] (suc k) h = refl
-padded_at (x ∷ m) zero h = h
-padded_at (x ∷ m) (suc k) h = padded_at m k h
-
-pub padded_monomial : (w r d : ℕ) (m : List ℕ) → IsMonomial w r d m → IsMonomial (suc w) r d (m ++ 0 ∷ [])
-padded_monomial w r d m is = record {
-  long = let long : length m ≡ w = is.long in let more : length (m ++ 0 ∷ []) ≡ length m + 1 = simp length-append in omega arith;
-  size = sum_padded m ∙ is.size;
-  past = λ k l. padded_at m k (is.past k l);
-}
-
 -- a list with its last member, which is 0, put in at a
 pub rotated_right : (a n : ℕ) (xs : List ℕ) → a ≤ n → length xs ≡ suc n → get_or xs n 0 ≡ 0 → take a xs ++ (drop (n - a) (drop a xs) ++ take (n - a) (drop a xs)) ≡ insert a (take n xs)
 unfolding insert
@@ -73,20 +50,6 @@ without_monomial (suc r) l d i here wide inside =
     let below : i < count r d = rw less_one at inside in
     let stands : StandsAt 5 r d i (exponents 5 r d i) = exponents_stand 5 r d i (omega arith) below in
     rw less_one (insert_monomial 5 r d l (exponents 5 r d i) (omega arith) (omega arith) stands.monomial)
-
-pub narrower_monomial : (r l d : ℕ) (e : List ℕ) → l < r → r ≤ 6 → get_or e l 0 ≡ 0 → IsMonomial 6 r d e → IsMonomial 6 (r - 1) d (remove l e ++ 0 ∷ [])
-narrower_monomial zero l d e here wide none is = absurd (omega arith)
-narrower_monomial (suc r) l d e here wide none is =
-    let less_one : suc r - 1 ≡ r = omega arith in
-    rw less_one (padded_monomial 5 r d (remove l e) (remove_monomial 5 r d l e (omega arith) (omega arith) none is))
-
-pub narrower_place : (r l d : ℕ) (e : List ℕ) → l < r → r ≤ 6 → get_or e l 0 ≡ 0 → IsMonomial 6 r d e → place (r - 1) (remove l e ++ 0 ∷ []) ≡ place (r - 1) (remove l e)
-narrower_place zero l d e here wide none is = absurd (omega arith)
-narrower_place (suc r) l d e here wide none is =
-    let less_one : suc r - 1 ≡ r = omega arith in
-    let removed : IsMonomial 5 r d (remove l e) = remove_monomial 5 r d l e (omega arith) (omega arith) none is in
-    let long : length (remove l e) ≡ 5 = removed.long in
-    rw less_one (place_padded r (remove l e) (omega arith))
 
 -- with no variable there is the monomial of degree 0 alone
 pub count_one : (r d : ℕ) → 0 < r → r ≤ 1 → d ≡ 0 → count (r - 1) d ≡ 1

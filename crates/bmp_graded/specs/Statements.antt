@@ -5,11 +5,13 @@
 --   NormalFormsAreNormal              `normal_by` makes normal forms
 --   ProjectionsAreMaps                sending an element to itself modulo a linear form is a module map
 --   ExtensionsAreMaps                 the map that given images of the generators determine is a module map
+--   ExtensionsSendGenerators          and sends each generator to its image
+--   MapsAreDetermined                 module maps from a free module that agree on the generators are the same
 --   QuotientEqualityIsDivisibility    elements are equal in the quotient exactly where the linear form divides each
 --                                     component of their difference
 --   LineModuloItsVariable             the free module in one variable over two elements with generators of degrees 0 and 1,
 --                                     modulo the variable, has dimensions 1, 1 and 0 in degrees 0, 1 and 2
-use Rattle.std.specs.Prelude.{◌≡◌, [], ◌∷◌, ◌↔◌, ℕ, ◌-◌, ◌≤◌, List, slice_index}
+use Rattle.std.specs.Prelude.{◌≡◌, [], ◌∷◌, ◌↔◌, ℕ, ◌-◌, ◌<◌, ◌≤◌, List, length, slice_index}
 use Rattle.std.specs.List.{All}
 use Rattle.bmp_math.specs.Vectors.{SameVector}
 use Rattle.bmp_poly.specs.Forms.{Form, IsNormalForm}
@@ -19,7 +21,7 @@ use Rattle.bmp_graded.specs.Modules.{free, direct_sum}
 use Rattle.bmp_graded.specs.NormalForms.{HasInverses, normal_by}
 use Rattle.bmp_graded.specs.Quotients.{quotient}
 use Rattle.bmp_graded.specs.Maps.{projection, extension}
-use Rattle.bmp_graded.specs.Components.{IsSameModulo}
+use Rattle.bmp_graded.specs.Components.{IsGenerator, IsSameModulo}
 
 abbrev pub FreeModulesAreModules : Type 0
 FreeModulesAreModules = (p r : ℕ) (degrees : List ℕ) → r ≤ 6 → IsModule p r (free r degrees)
@@ -43,6 +45,20 @@ ProjectionsAreMaps = (p r l : ℕ) (coords degrees : List ℕ) → 2 ≤ p → H
 abbrev pub ExtensionsAreMaps : Type 0
 ExtensionsAreMaps = (p r : ℕ) (M : Graded) (degrees : List ℕ) (images : ℕ → ℕ → ℕ) → r ≤ 6 → IsModule p r M
     → IsModuleMap p r (free r degrees) M (extension r M degrees images)
+
+-- v has the coordinates of the generator g
+abbrev pub ExtensionsSendGenerators : Type 0
+ExtensionsSendGenerators = (p r g : ℕ) (M : Graded) (degrees : List ℕ) (images : ℕ → ℕ → ℕ) (v : ℕ → ℕ)
+    → r ≤ 6 → IsModule p r M → g < length degrees → IsGenerator r degrees g v
+    → SameVector p (M.dim (slice_index degrees g)) (extension r M degrees images (slice_index degrees g) v) (images g)
+
+-- v g has the coordinates of the generator g
+abbrev pub MapsAreDetermined : Type 0
+MapsAreDetermined = (p r : ℕ) (M : Graded) (degrees : List ℕ) (map map' : ℕ → (ℕ → ℕ) → ℕ → ℕ) (v : ℕ → ℕ → ℕ)
+    → r ≤ 6 → IsModule p r M → IsModuleMap p r (free r degrees) M map → IsModuleMap p r (free r degrees) M map'
+    → ((g : ℕ) → g < length degrees → IsGenerator r degrees g (v g)
+    × SameVector p (M.dim (slice_index degrees g)) (map (slice_index degrees g) (v g)) (map' (slice_index degrees g) (v g)))
+    → (d : ℕ) (u : ℕ → ℕ) → SameVector p (M.dim d) (map d u) (map' d u)
 
 abbrev pub QuotientEqualityIsDivisibility : Type 0
 QuotientEqualityIsDivisibility = (p r l : ℕ) (coords degrees : List ℕ) (d : ℕ) (u v : ℕ → ℕ)

@@ -1,5 +1,5 @@
 //! The laws of graded modules, each the contract of a function without a body.
-ghost use Rattle.bmp_graded.specs.Statements.{FreeModulesAreModules, QuotientsAreModules, DirectSumsAreModules, NormalFormsAreNormal, ProjectionsAreMaps, ExtensionsAreMaps, QuotientEqualityIsDivisibility, LineModuloItsVariable};
+ghost use Rattle.bmp_graded.specs.Statements.{FreeModulesAreModules, QuotientsAreModules, DirectSumsAreModules, NormalFormsAreNormal, ProjectionsAreMaps, ExtensionsAreMaps, ExtensionsSendGenerators, MapsAreDetermined, QuotientEqualityIsDivisibility, LineModuloItsVariable};
 
 /// A free module meets the laws of a module.
 pub fn free_modules_are_modules()
@@ -27,9 +27,16 @@ pub fn projections_are_maps()
     ensures { ProjectionsAreMaps }
 {}
 
-/// Any images of the generators of a free module in a module determine a module map.
+/// Any images of the generators of a free module in a module determine a module map, which sends each generator to
+/// its image.
 pub fn extensions_are_maps()
-    ensures { ExtensionsAreMaps }
+    ensures map { ExtensionsAreMaps }
+    ensures generators { ExtensionsSendGenerators }
+{}
+
+/// There is only one module map from a free module with given images of the generators.
+pub fn maps_are_determined()
+    ensures { MapsAreDetermined }
 {}
 
 /// Two elements of a free module are equal in its quotient by a linear form exactly where the linear form divides

@@ -1,10 +1,8 @@
 -- Coordinates that are compared one after another.
-use Rattle.std.proofs.Common.{◌≡◌, ℕ, ◌+◌, ◌*◌, ◌%◌, ◌<◌, ◌≤◌, List, length, get_or, set, sym, ap, ◌∙◌, inl, inr, arith, length-set}
-use Rattle.std.specs.List.{All}
+use Rattle.std.proofs.Common.{◌≡◌, ℕ, ◌+◌, ◌<◌, List, length, get_or, sym, ap, ◌∙◌, inl, inr, arith}
 use Rattle.std.proofs.lemmas.Bool.{cases_eq}
-use Rattle.std.proofs.lemmas.List.Elements.{All-set}
 use Rattle.bmp_poly.specs.Coefficients.{coefficient}
-use Rattle.bmp_poly.proofs.CoefficientLemmas.{coefficient_read, coefficient_set_same, coefficient_set_other}
+use Rattle.bmp_poly.proofs.CoefficientLemmas.{coefficient_read}
 
 -- the numbers at n agree, where those of the values read there do
 pub same_here : {E : Type 0} (num : E → ℕ) (xs ys : List E) (n : ℕ) (a b : E) → n < length xs → n < length ys → a ≡ get_or xs n a → b ≡ get_or ys n b → num a ≡ num b → coefficient num xs n ≡ coefficient num ys n

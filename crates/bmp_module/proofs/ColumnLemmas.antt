@@ -14,7 +14,7 @@ use Rattle.bmp_graded.proofs.Totals.{total_front}
 use Rattle.bmp_graded.proofs.CopiesLemmas.{block_dim, copies_dim, moved_dim, moved_none, polynomials_dim}
 use Rattle.bmp_graded.proofs.ComponentLemmas.{start_of, start_more, start_none}
 use Rattle.bmp_graded.proofs.BlockActs.{extension_unit}
-use Rattle.bmp_module.specs.Columns.{HasColumns, HasColumnsOf, matrix_of_map}
+use Rattle.bmp_module.specs.Columns.{HasColumns}
 
 module _ (rows : ℕ) (number : ℕ → ℕ → ℕ) where
   pub columns_none : (old : List ℕ) → HasColumns rows 0 number old old

@@ -3,7 +3,6 @@ pub mod Appending
 pub mod Dividing
 pub mod Multiplying
 pub mod Rotating
-pub mod Narrowing
 pub mod NormalBlocks
 pub mod NormalColumns
 pub mod TabledBlocks

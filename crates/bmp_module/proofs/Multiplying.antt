@@ -1,27 +1,15 @@
 -- A coefficient of a monomial times a polynomial.
-use Rattle.std.proofs.Common.{◌≡◌, ℕ, suc, ◌+◌, ◌-◌, ◌<◌, ◌≤◌, true, false, leb, leb-true, List, [], ◌∷◌, length, get_or, refl, sym, ap, ◌∙◌, inl, inr, arith}
-use Rattle.std.proofs.lemmas.Bool.{cases_Bool, cases_lt, cond-true, cond-false, and_parts, lt-leb, le-leb}
+use Rattle.std.proofs.Common.{◌≡◌, ℕ, ◌+◌, ◌-◌, ◌<◌, ◌≤◌, true, false, leb, List, length, get_or, sym, ap, ◌∙◌, inl, inr, arith}
+use Rattle.std.proofs.lemmas.Bool.{cases_Bool, cases_lt, cond-true, cond-false, lt-leb, le-leb}
 use Rattle.std.specs.List.{sum}
 use Rattle.bmp_poly.specs.Exponents.{IsMonomial, count, place, exponents}
 use Rattle.bmp_poly.specs.Coefficients.{coefficient}
-use Rattle.bmp_poly.proofs.PlaceLemmas.{sum-cons, exponents_stand, place_below, StandsAt}
+use Rattle.bmp_poly.proofs.PlaceLemmas.{exponents_stand, place_below, StandsAt}
 use Rattle.bmp_poly.proofs.CoefficientLemmas.{coefficient_read}
 use Rattle.bmp_poly.specs.Shifts.{contains, less, shift}
 use Rattle.bmp_graded.specs.Modules.{polynomials, moved}
-use Rattle.bmp_poly.proofs.ShiftLemmas.{less_monomial}
+use Rattle.bmp_poly.proofs.ShiftLemmas.{sum-less, less_monomial}
 use Rattle.bmp_graded.proofs.CopiesLemmas.{moved_dim, polynomials_dim}
-
--- the degree of a quotient
-sum-less : (e m : List ℕ) → length e ≡ length m → contains e m ≡ true → sum (less e m) + sum m ≡ sum e
-unfolding less contains
-sum-less [] [] l h = refl
-sum-less [] (y ∷ m) l h = absurd (let e : 0 ≡ suc (length m) = l in omega arith)
-sum-less (x ∷ e) [] l h = absurd (let e : suc (length e) ≡ 0 = l in omega arith)
-sum-less (x ∷ e) (y ∷ m) l h =
-    let parts = and_parts (leb y x) (contains e m) h in
-    let le : y ≤ x = leb-true y x parts.0 in
-    let sizes : suc (length e) ≡ suc (length m) = l in
-    omega (arith, sum-cons (x - y) (less e m), sum-cons x e, sum-cons y m, sum-less e m (omega arith) parts.1)
 
 -- what is left of the monomial at place i when it is divided by m
 pub record IsRest (r degree : ℕ) (m rest : List ℕ) : Type 0 where

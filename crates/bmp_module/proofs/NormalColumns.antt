@@ -1,10 +1,11 @@
 -- Columns of normal forms: one from the values of a polynomial, and many one after another.
-use Rattle.std.proofs.Common.{◌≡◌, ◌≢◌, ℕ, ◌+◌, ◌*◌, ◌-◌, ◌%◌, ◌<◌, ◌≤◌, List, [], ◌∷◌, ◌++◌, length, length-append, map, get_or, eq-eqb, ne_eqb, sym, ap, subst, ◌∙◌, inl, inr, arith, refl}
+use Rattle.std.proofs.Common.{◌≡◌, ◌≢◌, ℕ, ◌+◌, ◌*◌, ◌-◌, ◌%◌, ◌<◌, ◌≤◌, List, [], ◌∷◌, ◌++◌, length, length-append, map, get_or, sym, ap, subst, ◌∙◌, inl, inr, arith, refl}
 use Rattle.std.proofs.lemmas.Bool.{cases_eq, cases_lt}
 use Rattle.std.proofs.lemmas.List.{get_or_push, get_or_append_left, get_or-append-add, map_push, length-map}
 use Rattle.std.proofs.lemmas.Nat.{mul-add-lt}
 use Rattle.std.proofs.Math.Path.{fun_ext}
 use Rattle.bmp_math.specs.Vectors.{unit}
+use Rattle.bmp_math.proofs.UnitLemmas.{unit_same, unit_other}
 use Rattle.bmp_poly.specs.Exponents.{count, exponents, place}
 use Rattle.bmp_poly.specs.Forms.{Form, unit_form}
 use Rattle.bmp_poly.specs.Coefficients.{coefficient, form}
@@ -17,16 +18,10 @@ use Rattle.bmp_module.specs.Appended.{IsAppended}
 use Rattle.bmp_module.specs.Tables.{normal_number}
 use Rattle.bmp_module.specs.Tables.{IsNormalColumn, HasNormalColumns, HasNormalForms}
 
-pub unit_same : (t i : ℕ) → i ≡ t → unit t i ≡ 1
-unit_same t i same = let turned : t ≡ i = sym same in rw (eq-eqb t i turned) refl
-
-pub unit_other : (t i : ℕ) → i ≢ t → unit t i ≡ 0
-unit_other t i other = let turned : t ≢ i = λ e. other (sym e) in rw (ne_eqb t i turned) refl
-
 pub unit_sym : (i j : ℕ) → unit i j ≡ unit j i
 unit_sym i j = elim (cases_eq i j) [
-  | inl same ↦ unit_same i j (sym same) ∙ sym (unit_same j i same)
-  | inr other ↦ unit_other i j (λ e. other (sym e)) ∙ sym (unit_other j i other)
+  | inl same ↦ ap (unit i) (sym same) ∙ unit_same i ∙ sym (unit_same j) ∙ ap (unit j) (sym same)
+  | inr other ↦ unit_other i j other ∙ sym (unit_other j i (λ e. other (sym e)))
 ]
 
 -- 1 at its own place, and 0 past the end too
@@ -35,7 +30,7 @@ unit_appended is_value num now n t inside h i =
     let sized : length now ≡ 0 + n = h.sized in
     elim (cases_lt i n) [
       | inl below ↦ let at : i ≡ 0 + i = omega arith in ap (coefficient num now) at ∙ h.added i below
-      | inr past ↦ let apart : i ≢ t = omega arith in coefficient_past num now i (omega arith) ∙ sym (unit_other t i apart)
+      | inr past ↦ let apart : i ≢ t = omega arith in coefficient_past num now i (omega arith) ∙ sym (unit_other t i (λ e. apart (sym e)))
     ]
 
 -- with the coefficients of the monomial at place t the polynomial is this monomial

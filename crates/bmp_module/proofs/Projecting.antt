@@ -1,5 +1,5 @@
 -- Elements of a free module to the quotient, one component after another.
-use Rattle.std.proofs.Common.{◌≡◌, ℕ, suc, ◌+◌, ◌-◌, ◌%◌, ◌<◌, ◌≤◌, List, [], length, get_or, sym, ap, ◌∙◌, arith}
+use Rattle.std.proofs.Common.{◌≡◌, ℕ, suc, ◌+◌, ◌-◌, ◌%◌, ◌<◌, ◌≤◌, List, [], length, get_or, sym, ap, ◌∙◌, arith, ◌↔◌, subst}
 use Rattle.std.specs.List.{All, slice_range}
 use Rattle.std.proofs.Math.Nat.{mod-mod}
 use Rattle.bmp_poly.specs.Coefficients.{coefficient}
@@ -7,7 +7,7 @@ use Rattle.bmp_poly.specs.Coordinates.{IsLeading}
 use Rattle.bmp_graded.specs.Graded.{Graded}
 use Rattle.bmp_graded.specs.NormalForms.{HasInverses, normal_by}
 use Rattle.bmp_graded.specs.Modules.{polynomials, moved, copies, free}
-use Rattle.bmp_graded.specs.Quotients.{reduced}
+use Rattle.bmp_graded.specs.Quotients.{reduced, quotient}
 use Rattle.bmp_graded.specs.Maps.{project_one, projection}
 use Rattle.bmp_graded.proofs.CoordinateLemmas.{coefficient_range}
 use Rattle.bmp_graded.proofs.CopiesLemmas.{block_dim, copies_dim}
@@ -15,6 +15,8 @@ use Rattle.bmp_graded.proofs.ModuleMaps.{moved_map}
 use Rattle.bmp_graded.proofs.ProjectionMaps.{project_over}
 use Rattle.bmp_module.specs.Appended.{IsAppended}
 use Rattle.bmp_module.specs.Elements.{IsElement}
+use Rattle.bmp_graded.specs.Components.{IsSameModulo}
+use Rattle.bmp_graded.proofs.Congruences.{same_modulo}
 use Rattle.bmp_module.proofs.Walking.{Walked, walked_start, walked_inside, walked_more, walked_end}
 
 abbrev pub onto : ℕ → ℕ → ℕ → List ℕ → Graded
@@ -60,3 +62,17 @@ module _ {E : Type 0} (is_value : E → Type 0) (num : E → ℕ) (p s r l : ℕ
   projected_numbers xs k start out same past h i below =
       let all = walked_end is_value num p (block_dim (polynomials (suc (r - 1))) d) (block_dim (onto s r l coords) d) (λ g. project_one s (r - 1) l (λ k. get_or coords k 0) (d - g)) gs (coefficient num numbers) k start out (rw (← same) past) h in
       h.done i (omega (arith, all, copies_dim (onto s r l coords) d gs))
+
+-- elements have the same image exactly where the label divides their difference
+pub same_images : {B : Type 0} (p s r l : ℕ) (coords gs : List ℕ) (d e t : ℕ) (u v x y : ℕ → ℕ) → p ≡ s → 2 ≤ p → HasInverses p → IsLeading s r l coords → e ≡ d → t ≡ d
+    → ((i : ℕ) → i < (quotient s (r - 1) l (λ k. get_or coords k 0) gs).dim d → x i ≡ projection s (r - 1) l (λ k. get_or coords k 0) gs d u i % p)
+    → ((i : ℕ) → i < (quotient s (r - 1) l (λ k. get_or coords k 0) gs).dim e → y i ≡ projection s (r - 1) l (λ k. get_or coords k 0) gs e v i % p)
+    → B ↔ ((i : ℕ) → i < (quotient s (r - 1) l (λ k. get_or coords k 0) gs).dim t → x i ≡ y i) → B ↔ IsSameModulo s r (λ k. get_or coords k 0) gs d u v
+same_images {B} p s r l coords gs d e t u v x y same two inverses leads e_is t_is x_is y_is decides =
+    let law = same_modulo s r l coords gs d u v (subst (λ z. 2 ≤ z) same two) (subst HasInverses same inverses) leads in
+    let second = subst (λ z. (i : ℕ) → i < (quotient s (r - 1) l (λ k. get_or coords k 0) gs).dim z → y i ≡ projection s (r - 1) l (λ k. get_or coords k 0) gs z v i % p) e_is y_is in
+    let here = subst (λ z. B ↔ ((i : ℕ) → i < (quotient s (r - 1) l (λ k. get_or coords k 0) gs).dim z → x i ≡ y i)) t_is decides in
+    let read = λ (w : ℕ → ℕ) (i : ℕ). ap (λ z. projection s (r - 1) l (λ k. get_or coords k 0) gs d w i % z) same in (
+      (λ holds. law.0 (λ i below. sym (x_is i below ∙ read u i) ∙ here.0 holds i below ∙ (second i below ∙ read v i))),
+      (λ modulo. here.1 (λ i below. (x_is i below ∙ read u i) ∙ law.1 modulo i below ∙ sym (second i below ∙ read v i))),
+    )

@@ -1,9 +1,8 @@
 -- What a rotation of the end of six exponents leaves.
-use Rattle.std.proofs.Common.{◌≡◌, ℕ, ◌-◌, ◌<◌, ◌≤◌, List, [], ◌∷◌, ◌++◌, length, get_or, take, drop, sym, ap, ap₂, ◌∙◌, arith, take_all, drop_of_length-le, length-drop, append-nil}
+use Rattle.std.proofs.Common.{◌≡◌, ℕ, ◌-◌, ◌<◌, ◌≤◌, List, [], ◌++◌, length, get_or, take, drop, ap, ◌∙◌, arith, take_all, drop_of_length-le, length-drop, append-nil}
 use borrow.Rule.Slice.PartMut.{mid_of, put_mid}
-use Rattle.std.proofs.lemmas.Slice.{put_mid-rotated}
-use Rattle.bmp_graded.specs.Quotients.{insert, remove}
-use Rattle.bmp_graded.proofs.PureLemmas.{rotated_right, remove_parts}
+use Rattle.bmp_graded.specs.Quotients.{insert}
+use Rattle.bmp_graded.proofs.PureLemmas.{rotated_right}
 
 -- the whole end of the list from a on
 mid_is : (a : ℕ) (xs : List ℕ) → a < 6 → length xs ≡ 6 → mid_of a (6 - a) xs ≡ drop a xs
@@ -18,8 +17,3 @@ put_right a xs ys inside long last ys_is =
     let ends : drop (6 - a) (drop a xs) ≡ [] = drop_of_length-le (drop a xs) past in
     let whole : ys ≡ drop (5 - a) (drop a xs) ++ take (5 - a) (drop a xs) = ys_is ∙ ap (λ z. drop (length z - 1) z ++ take (length z - 1) z) mid ∙ ap (λ n. drop n (drop a xs) ++ take n (drop a xs)) one in
     ap (λ z. take a xs ++ (ys ++ z)) ends ∙ ap (λ z. take a xs ++ z) (append-nil ys) ∙ ap (λ z. take a xs ++ z) whole ∙ rotated_right a 5 xs (omega arith) long last
-
-pub put_left : (a : ℕ) (xs ys : List ℕ) → a < 6 → length xs ≡ 6 → get_or xs a 0 ≡ 0 → ys ≡ drop 1 (mid_of a (6 - a) xs) ++ take 1 (mid_of a (6 - a) xs) → put_mid a (6 - a) xs ys ≡ remove a xs ++ 0 ∷ []
-put_left a xs ys inside long none ys_is =
-    put_mid-rotated a (6 - a) xs ys 0 (omega arith) (omega arith) ys_is
-    ∙ ap₂ (λ (m : List ℕ) (x : ℕ). m ++ x ∷ []) (sym (remove_parts a xs)) none

@@ -1,5 +1,5 @@
 -- A monomial times an element modulo a label, by a table of normal forms: one block, and the loops that make it.
-use Rattle.std.proofs.Common.{◌≡◌, ◌≢◌, ℕ, zero, suc, ◌+◌, ◌-◌, ◌*◌, ◌%◌, ◌<◌, ◌≤◌, cond, eqb, List, [], ◌∷◌, ◌++◌, length, get_or, refl, sym, ap, ap₂, ◌∙◌, inl, inr, arith, eq-eqb, ne_eqb}
+use Rattle.std.proofs.Common.{◌≡◌, ◌≢◌, ℕ, suc, ◌+◌, ◌-◌, ◌*◌, ◌%◌, ◌<◌, ◌≤◌, eqb, List, [], ◌∷◌, ◌++◌, length, get_or, refl, sym, ap, ap₂, ◌∙◌, inl, inr, arith, eq-eqb, ne_eqb}
 use Rattle.std.specs.List.{All, sum}
 use Rattle.std.proofs.lemmas.Bool.{cases_eq, cond-true, cond-false}
 use Rattle.std.proofs.lemmas.List.{get_or_push, get_or_append_left}
@@ -8,6 +8,7 @@ use Rattle.std.proofs.Math.Nat.{mod-mod, zero-mod}
 use Rattle.bmp_math.specs.Sums.{sum_below}
 use Rattle.bmp_math.specs.Vectors.{SameVector, IsLinear, unit}
 use Rattle.bmp_math.specs.Congruences.{SameMod}
+use Rattle.bmp_math.proofs.UnitLemmas.{unit_same, unit_other, combination_unit}
 use Rattle.bmp_math.proofs.CongruenceLemmas.{same_mul, reduced_add}
 use Rattle.bmp_math.proofs.SumLemmas.{sum_below-zero, sum_below_more, sum_below_only, sum_same_mod}
 use Rattle.bmp_poly.specs.Exponents.{IsMonomial, count, place, exponents}
@@ -32,19 +33,8 @@ use Rattle.bmp_graded.proofs.QuotientLemmas.{insert_at, insert_remove, remove_in
 use Rattle.bmp_graded.proofs.ReducedLaws.{reduced_dim}
 use Rattle.bmp_module.specs.Appended.{IsAppended}
 use Rattle.bmp_module.specs.Tables.{normal_number, combined, IsNormalColumn, ArePlaces}
-use Rattle.bmp_module.proofs.Appending.{appended_none, appended_more, appended_as}
-
-unit_here : (k i : ℕ) → k ≡ i → unit k i ≡ 1
-unit_here k i same = cond-true {A = ℕ} (eqb k i) 1 0 (eq-eqb k i same)
-
-unit_elsewhere : (k i : ℕ) → k ≢ i → unit k i ≡ 0
-unit_elsewhere k i other = cond-false {A = ℕ} (eqb k i) 1 0 (ne_eqb k i other)
-
-unit_turned : (k i : ℕ) → unit k i ≡ unit i k
-unit_turned k i = elim (cases_eq k i) [
-  | inl same ↦ unit_here k i same ∙ sym (unit_here i k (sym same))
-  | inr other ↦ unit_elsewhere k i other ∙ sym (unit_elsewhere i k (λ e. other (sym e)))
-]
+use Rattle.bmp_module.proofs.NormalColumns.{unit_sym}
+use Rattle.bmp_module.proofs.Appending.{appended_more, appended_as}
 
 -- the monomial at place j of those of degree d without the l-th of r variables
 module _ (r l d j : ℕ) (here : l < r) (wide : r ≤ 6) (inside : j < count (r - 1) d) where
@@ -64,7 +54,7 @@ module _ (r l d j : ℕ) (here : l < r) (wide : r ≤ 6) (inside : j < count (r 
       let back : remove l x ≡ exponents 5 (r - 1) d j = remove_insert l (exponents 5 (r - 1) d j) (omega (arith, long5)) in
       let stands : place (r - 1) (exponents 5 (r - 1) d j) ≡ j = (exponents_stand 5 (r - 1) d j narrow inside).place_is in
       cond-true {A = ℕ} (eqb (get_or x l 0) 0) (unit j (place (r - 1) (remove l x))) 0 (eq-eqb (get_or x l 0) 0 (insert_at l (exponents 5 (r - 1) d j)))
-      ∙ ap (λ z. unit j (place (r - 1) z)) back ∙ unit_here j (place (r - 1) (exponents 5 (r - 1) d j)) (sym stands)
+      ∙ ap (λ z. unit j (place (r - 1) z)) back ∙ ap (unit j) stands ∙ unit_same j
 
   -- a monomial without the variable that stands at the same place is the same
   same_pure : (e : List ℕ) → IsMonomial 6 r d e → get_or e l 0 ≡ 0 → j ≡ place (r - 1) (remove l e) → e ≡ x
@@ -79,7 +69,7 @@ module _ (r l d j : ℕ) (here : l < r) (wide : r ≤ 6) (inside : j < count (r 
   pure_elsewhere e is other = elim (cases_eq (get_or e l 0) 0) [
     | inl none ↦
         cond-true {A = ℕ} (eqb (get_or e l 0) 0) (unit j (place (r - 1) (remove l e))) 0 (eq-eqb (get_or e l 0) 0 none)
-        ∙ unit_elsewhere j (place (r - 1) (remove l e)) (λ same. other (same_pure e is none same))
+        ∙ unit_other j (place (r - 1) (remove l e)) (λ same. other (same_pure e is none same))
     | inr some ↦ cond-false {A = ℕ} (eqb (get_or e l 0) 0) (unit j (place (r - 1) (remove l e))) 0 (ne_eqb (get_or e l 0) 0 some)
   ]
 
@@ -94,7 +84,7 @@ module _ (r l d j : ℕ) (here : l < r) (wide : r ≤ 6) (inside : j < count (r 
       ap (λ z. z * unit_form r h (joined m (exponents 6 r d i))) (pure_elsewhere (exponents 6 r d i) stands.monomial (λ same. other (sym stands.place_is ∙ ap (place r) same))) ∙ nothing (unit_form r h (joined m (exponents 6 r d i))))
       ∙ ap (λ z. pure_form (r - 1) l (unit j) z * unit_form r h (joined m z)) at_place
       ∙ ap (λ z. z * unit_form r h (joined m x)) pure_here ∙ once (unit_form r h (joined m x))
-      ∙ unit_turned (place r (joined m x)) (place r h)
+      ∙ unit_sym (place r (joined m x)) (place r h)
     where
       nothing : (y : ℕ) → 0 * y ≡ 0
       nothing y = omega arith
@@ -123,15 +113,7 @@ module _ (p r l : ℕ) (coords : List ℕ) (two : 2 ≤ p) (inverses : HasInvers
 
   -- a vector as the sum of its coordinates times the units
   by_units : (n : ℕ) (v : ℕ → ℕ) → SameVector p n v (λ j. sum_below (λ i. v i * unit i j) n)
-  by_units n v j below =
-      ap (λ z. z % p)
-      (sym (sum_below_only (λ i. v i * unit i j) n j below (λ i b other. ap (λ z. v i * z) (unit_elsewhere i j other) ∙ nothing (v i)) ∙ ap (λ z. v j * z) (unit_here j j refl) ∙ once (v j)))
-    where
-      nothing : (y : ℕ) → y * 0 ≡ 0
-      nothing y = omega arith
-
-      once : (y : ℕ) → y * 1 ≡ y
-      once y = omega arith
+  by_units n v j below = ap (λ z. z % p) (sym (combination_unit n j v below))
 
   pub act_combined : (places : List ℕ) (v : ℕ → ℕ) (i : ℕ) → ArePlaces r l d m (count (r - 1) d) places → i < count (r - 1) (d + k) → SameMod p (combined p r (λ k. get_or coords k 0) l (d + k) (λ j. get_or places j 0) v (count (r - 1) d) i) (Q.act m d (d + k) v i)
   act_combined places v i are below =
@@ -192,9 +174,6 @@ module _ {E : Type 0} (is_value : E → Type 0) (num : E → ℕ) (q p r l : ℕ
       }
 
 module _ {E : Type 0} (is_value : E → Type 0) (num : E → ℕ) (q p r l : ℕ) (coords : List ℕ) (s : ℕ) (places : List ℕ) (block old : List E) where
-  pub numbers_start : (new : List E) → new ≡ old → All is_value old → AreNumbersBelow is_value num q p r l coords s places block old new 0
-  numbers_start new same values = record { appended = rw same (appended_none is_value num old (λ i. combined p r (λ k. get_or coords k 0) l s (λ k. get_or places k 0) (coefficient num block) (length block) i % q) values) }
-
   pub numbers_next : (new : List E) (n : ℕ) (x : E) → AreNumbersBelow is_value num q p r l coords s places block old new n → is_value x → num x ≡ combined p r (λ k. get_or coords k 0) l s (λ k. get_or places k 0) (coefficient num block) (length block) n % q → AreNumbersBelow is_value num q p r l coords s places block old (new ++ x ∷ []) (n + 1)
   numbers_next new n x h value number = record { appended = appended_more is_value num old new n (λ i. combined p r (λ k. get_or coords k 0) l s (λ k. get_or places k 0) (coefficient num block) (length block) i % q) x h.appended value number }
 

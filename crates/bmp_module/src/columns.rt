@@ -43,7 +43,7 @@ fn push_multiples<F: Field, N: GradedModule<F>>(
     columns: &mut Vec<u8>,
 ) -> Result<(), AllocError>
     requires fits { N.fits over.now (F.size f.now) }
-    requires rank { N.rank over.now ≡ rank }
+    requires rank { rank ≤ N.rank over.now }
     requires some { 0 < rank }
     requires wide { rank ≤ 6 }
     requires image { N.is_element over.now f.now image.now }
@@ -70,7 +70,7 @@ impl<'a, F: Field, N: GradedModule<F>> Linear<'a, F, N> {
     /// The matrix of the map in degree `d`, column after column.
     pub fn columns(&self, alloc: Global, f: &F, d: u32) -> Result<Vec<u8>, AllocError>
         requires fits { N.fits self.now.into.now (F.size f.now) }
-        requires rank { N.rank self.now.into.now ≡ self.now.from.now.rank }
+        requires rank { self.now.from.now.rank ≤ N.rank self.now.into.now }
         requires images { AreImages (N.is_element self.now.into.now f.now) (N.degree self.now.into.now)
             self.now.from.now.degrees.items self.now.images.now }
         requires degree { d ≤ 6 }

@@ -27,7 +27,9 @@ pub struct Free {
 
 impl Free {
     ghost use Rattle.bmp_field.specs.Runs.{AreBelow};
-    ghost use Rattle.bmp_module.specs.FreeModules.{rank_of, degrees_of, IsGenerator};
+    ghost use Rattle.bmp_module.specs.FreeModules.{rank_of, degrees_of};
+    ghost use Rattle.bmp_graded.specs.Components.{IsGenerator};
+    ghost use Rattle.bmp_graded.specs.Modules.{moved, polynomials};
 
     /// The free module in `rank` variables with a generator of each of the degrees, in their order.
     pub fn new(alloc: Global, rank: u8, degrees: &[u32]) -> Result<Free, AllocError>
@@ -75,6 +77,15 @@ impl Free {
         ensures { result ≡ slice_index (degrees_of self.now) g }
     {
         self.degrees[g as usize]
+    }
+
+    /// How many coordinates of degree `d` the generator `g`, counted from 0, has: none where its degree is above `d`.
+    pub fn coordinates_of(&self, g: u32, d: u32) -> u32
+        requires generator { g < length (degrees_of self.now) }
+        requires degree { d ≤ 6 }
+        ensures { result ≡ (moved (slice_index (degrees_of self.now) g) (polynomials (rank_of self.now))).dim d }
+    {
+        blocks::block_length(self.rank, self.degrees[g as usize], d)
     }
 
     /// The element of the degree of generator `g` that is 1 at it and 0 at the others.

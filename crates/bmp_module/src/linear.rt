@@ -27,7 +27,8 @@ pub struct Linear<'a, F: Field, N: GradedModule<F>> {
 }
 
 impl<'a, F: Field, N: GradedModule<F>> Linear<'a, F, N> {
-    /// The map with these images. Each is to be an element of `into` of its generator's degree. Takes no memory.
+    /// The map with these images. Each is to be an element of `into` of its generator's degree, and `into` a module over
+    /// the variables of `from`, maybe over more. Takes no memory.
     pub fn new(from: &'a Free, into: &'a N, images: &'a [N::Elem]) -> Linear<'a, F, N>
         ensures from { result.from.now ≡ from.now }
         ensures into { result.into.now ≡ into.now }
@@ -82,7 +83,7 @@ fn add_multiples<F: Field, N: GradedModule<F>>(
     total: &mut N::Elem,
 ) -> Result<(), AllocError>
     requires fits { N.fits into.now (F.size f.now) }
-    requires rank { N.rank into.now ≡ rank }
+    requires rank { rank ≤ N.rank into.now }
     requires some { 0 < rank }
     requires wide { rank ≤ 6 }
     requires image { N.is_element into.now f.now image.now }
@@ -120,7 +121,7 @@ impl<'a, F: Field, N: GradedModule<F>> ModuleMap<F, Free, N> for Linear<'a, F, N
     ghost map = { λ s f. extension s.from.now.rank (N.graded s.into.now) s.from.now.degrees.items
         (image_coordinates (N.coordinate s.into.now f) s.images.now) };
 
-    ghost is_map = { λ s f. N.fits s.into.now (F.size f) × (N.rank s.into.now ≡ s.from.now.rank) ×
+    ghost is_map = { λ s f. N.fits s.into.now (F.size f) × (s.from.now.rank ≤ N.rank s.into.now) ×
         AreImages (N.is_element s.into.now f) (N.degree s.into.now) s.from.now.degrees.items s.images.now };
 
     fn apply(&self, alloc: Global, f: &F, e: &Coordinates<F>) -> Result<N::Elem, AllocError> {

@@ -16,68 +16,6 @@ use bmp_field::Field;
 use bmp_poly::{Label, monomials};
 use std::alloc::AllocError;
 
-/// The coefficient at place `i` in degree `degree` of `m` times the polynomial without the leading variable whose
-/// coefficients are `block`.
-fn multiple_at<F: Field>(
-    f: &F,
-    label: &Label,
-    degree: u32,
-    i: u32,
-    m: &[u8; 6],
-    block: &[F::E],
-) -> F::E
-    requires degree { degree ≤ 6 }
-    requires place { i < count (rank_of label.now) degree }
-    requires monomial { IsMonomial 6 (rank_of label.now) (sum m.now) m.now }
-    requires sized { (d : ℕ) → d + sum m.now ≡ degree → length block.now ≡ count (rank_of label.now - 1) d }
-    requires values { All (F.is_value f.now) block.now }
-    ensures value { F.is_value f.now result }
-    ensures number { F.num f.now result ≡
-        shift m.now (pure_form (rank_of label.now - 1) (leading_of label.now) (coefficient (F.num f.now) block.now))
-        (exponents 6 (rank_of label.now) degree i) }
-{
-    let rank = label.rank();
-    let leading = label.leading() - 1;
-    let e = monomials::monomial_at(rank, degree, i);
-    match blocks::divided(&e, m) {
-        Some(rest) => {
-            if rest[leading as usize] > 0 {
-                return f.zero();
-            }
-            let narrower = pure::without_variable(&rest, leading);
-            block[monomials::place_of(rank - 1, degree - blocks::degree_of(m), &narrower) as usize]
-        }
-        None => f.zero(),
-    }
-}
-
-/// Makes `product` the coefficients in degree `degree` of `m` times the polynomial without the leading variable whose
-/// coefficients are `block`.
-fn multiply<F: Field>(
-    f: &F,
-    label: &Label,
-    degree: u32,
-    m: &[u8; 6],
-    block: &[F::E],
-    product: &mut Vec<F::E>,
-) -> Result<(), AllocError>
-    requires degree { degree ≤ 6 }
-    requires monomial { IsMonomial 6 (rank_of label.now) (sum m.now) m.now }
-    requires sized { (d : ℕ) → d + sum m.now ≡ degree → length block.now ≡ count (rank_of label.now - 1) d }
-    requires values { All (F.is_value f.now) block.now }
-    ensures { OnOk result (IsAppended (F.is_value f.now) (F.num f.now) [] product.new.items
-        (count (rank_of label.now) degree)
-        (λ i. shift m.now
-        (pure_form (rank_of label.now - 1) (leading_of label.now) (coefficient (F.num f.now) block.now))
-        (exponents 6 (rank_of label.now) degree i))) }
-{
-    product.clear();
-    for i in 0..monomials::count(label.rank(), degree) {
-        product.push(multiple_at(f, label, degree, i, m, block))?;
-    }
-    Ok(())
-}
-
 /// Makes a polynomial its normal form, and appends the coefficients of the monomials without the leading variable.
 pub fn push_normal<F: Field>(
     f: &F,
@@ -115,41 +53,6 @@ pub(crate) fn push_zeros<F: Field>(f: &F, n: u32, numbers: &mut Vec<F::E>) -> Re
     for _ in 0..n {
         numbers.push(f.zero())?;
     }
-    Ok(())
-}
-
-/// Appends the coordinates of `m` times an element whose coordinates at one generator are `block`.
-///
-/// What `product` holds does not matter, before or after.
-pub(crate) fn push_multiple<F: Field>(
-    f: &F,
-    label: &Label,
-    generator: u32,
-    degree: u32,
-    m: &[u8; 6],
-    block: &[F::E],
-    product: &mut Vec<F::E>,
-    numbers: &mut Vec<F::E>,
-) -> Result<(), AllocError>
-    requires prime { F.size f.now ≡ prime_of label.now }
-    requires degree { degree + sum m.now ≤ 6 }
-    requires monomial { IsMonomial 6 (rank_of label.now) (sum m.now) m.now }
-    requires sized { length block.now ≡ (moved generator (component_of label.now)).dim degree }
-    requires values { All (F.is_value f.now) block.now }
-    requires numbers { All (F.is_value f.now) numbers.old.items }
-    ensures { let M = moved generator (component_of label.now) in
-        OnOk result (IsAppended (F.is_value f.now) (F.num f.now) numbers.old.items numbers.new.items
-        (M.dim (degree + sum m.now))
-        (λ i. M.act m.now degree (degree + sum m.now) (coefficient (F.num f.now) block.now) i % F.size f.now)) }
-{
-    let raised = degree + blocks::degree_of(m);
-    if generator > degree {
-        let zeros = pure::block_length(label.rank(), generator, raised);
-        push_zeros(f, zeros, numbers)?;
-        return Ok(());
-    }
-    multiply(f, label, raised - generator, m, block, product)?;
-    push_normal(f, label, raised - generator, product, numbers)?;
     Ok(())
 }
 

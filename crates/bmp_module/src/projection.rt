@@ -6,6 +6,7 @@ ghost use Rattle.bmp_graded.specs.Maps.{projection};
 
 use crate::coordinates::Coordinates;
 use crate::free::Free;
+use crate::graded::GradedModule;
 use crate::map::ModuleMap;
 use crate::quotient::Quotient;
 use crate::{blocks, normal};
@@ -20,12 +21,44 @@ pub struct Projection<'a> {
 
 impl<'a> Projection<'a> {
     ghost use Rattle.bmp_module.specs.Projections.{quotient_of};
+    ghost use Rattle.std.specs.Prelude.{◌↔◌, IsTrue};
+    ghost use Rattle.bmp_poly.specs.Labels.{prime_of, rank_of, coordinate_of};
+    ghost use Rattle.bmp_graded.specs.Modules.{free};
+    ghost use Rattle.bmp_graded.specs.Components.{IsSameModulo};
+    ghost use Rattle.bmp_module.specs.Elements.{IsElement};
+    ghost use Rattle.bmp_module.specs.FreeModules.{rank_of as free_rank_of, degrees_of};
+    ghost use Rattle.bmp_module.specs.QuotientModules.{free_of, label_of};
 
     /// The map to the quotient.
     pub fn new(quotient: &'a Quotient) -> Projection<'a>
         ensures { quotient_of result ≡ quotient.now }
     {
         Projection { quotient }
+    }
+
+    /// Whether two elements of the free module, of one degree, are equal in the quotient: the label divides each component
+    /// of their difference.
+    pub fn same<F: Field>(
+        &self,
+        alloc: Global,
+        f: &F,
+        a: &Coordinates<F>,
+        b: &Coordinates<F>,
+    ) -> Result<bool, AllocError>
+        requires prime { F.size f.now ≡ prime_of (label_of (quotient_of self.now)) }
+        requires first { let s = free_of (quotient_of self.now) in
+            IsElement (F.is_value f.now) (free (free_rank_of s) (degrees_of s)) a.now.degree a.now.numbers.items }
+        requires second { let s = free_of (quotient_of self.now) in
+            IsElement (F.is_value f.now) (free (free_rank_of s) (degrees_of s)) b.now.degree b.now.numbers.items }
+        requires degree { a.now.degree ≡ b.now.degree }
+        ensures { let x = label_of (quotient_of self.now) in IfOk result (λ same. IsTrue same ↔
+            IsSameModulo (prime_of x) (rank_of x) (coordinate_of x) (degrees_of (free_of (quotient_of self.now))) a.now.degree
+            (coefficient (F.num f.now) a.now.numbers.items) (coefficient (F.num f.now) b.now.numbers.items)) }
+    {
+        let first = self.apply(alloc, f, a)?;
+        let second = self.apply(alloc, f, b)?;
+        let same = self.quotient.same(f, &first, &second);
+        Ok(same)
     }
 }
 

@@ -18,17 +18,6 @@ pub(crate) fn with_variable(m: &[u8; 6], at: u8) -> [u8; 6]
     wider
 }
 
-/// The monomial without its variable at `at`, of exponent 0, and a last exponent 0.
-pub(crate) fn without_variable(e: &[u8; 6], at: u8) -> [u8; 6]
-    requires variable { at < 6 }
-    requires zero { slice_index e.now at ≡ 0 }
-    ensures { result ≡ remove at e.now ++ 0 ∷ [] }
-{
-    let mut narrower = *e;
-    narrower[at as usize..].rotate_left(1);
-    narrower
-}
-
 /// How many monomials of a degree lack one of the `rank` variables.
 pub fn count_without(rank: u8, degree: u32) -> u32
     requires some { 0 < rank }

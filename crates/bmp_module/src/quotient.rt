@@ -9,7 +9,8 @@ ghost use Rattle.bmp_module.specs.Elements.{IsElement};
 use crate::coordinates::Coordinates;
 use crate::free::Free;
 use crate::graded::GradedModule;
-use crate::{blocks, normal, pure};
+use crate::normal_table::NormalTable;
+use crate::{blocks, pure, tabled};
 use bmp_field::Field;
 use bmp_poly::Label;
 use std::alloc::{AllocError, Global};
@@ -18,7 +19,8 @@ use std::alloc::{AllocError, Global};
 ///
 /// The coordinates of degree `d` are, for each generator in order whose degree `e` is at most `d`, the coefficients
 /// of those monomials of degree `d - e` that do not hold the label's leading variable, in order, of the normal form.
-/// An element is kept as these, so two elements are the same exactly where they are equal.
+/// An element is kept as these, so two elements are the same exactly where they are equal. A monomial acts by a table
+/// of normal forms that is made for the call; where many act, [`TabledQuotient`](crate::TabledQuotient) keeps one.
 #[derive(Debug, Drop)]
 pub struct Quotient {
     pub(crate) free: Free,
@@ -114,26 +116,10 @@ impl<F: Field> GradedModule<F> for Quotient {
         m: [u8; 6],
         e: &Coordinates<F>,
     ) -> Result<Coordinates<F>, AllocError> {
-        let mut product = Vec::new(alloc);
-        let mut numbers = Vec::new(alloc);
-        let mut start = 0;
-        for g in &self.free.degrees {
-            let end = start + pure::block_length(self.free.rank, *g, e.degree) as usize;
-            let block = &e.numbers[start..end];
-            normal::push_multiple(
-                f,
-                &self.label,
-                *g,
-                e.degree,
-                &m,
-                block,
-                &mut product,
-                &mut numbers,
-            )?;
-            start = end;
-        }
-        let degree = e.degree + blocks::degree_of(&m);
-        Ok(Coordinates { degree, numbers })
+        let raised = e.degree + blocks::degree_of(&m);
+        let table = NormalTable::new(alloc, f, &self.label, raised)?;
+        let multiple = tabled::act_by_table(alloc, f, &table, self, m, e)?;
+        Ok(multiple)
     }
 
     fn coordinate(&self, f: &F, e: &Coordinates<F>, i: u64) -> F::E {

@@ -120,7 +120,7 @@ fn push_multiple<F: Field>(
 }
 
 /// The monomial `m` times `e`, by the table.
-fn act_by_table<F: Field>(
+pub(crate) fn act_by_table<F: Field>(
     alloc: Global,
     f: &F,
     table: &NormalTable,
@@ -171,7 +171,7 @@ fn act_by_table<F: Field>(
 
 /// A quotient with a table of its label's normal forms, by which monomials act faster.
 ///
-/// It is the module that the quotient is, with the same elements. Past the table's degrees the quotient's own way serves.
+/// It is the module that the quotient is, with the same elements. Past the table's degrees it acts as the quotient does.
 #[derive(Drop)]
 pub struct TabledQuotient<'a> {
     quotient: &'a Quotient,

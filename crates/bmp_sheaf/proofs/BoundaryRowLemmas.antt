@@ -2,7 +2,7 @@
 use Rattle.std.proofs.Common.{◌≡◌, ℕ, ◌+◌, ◌*◌, ◌%◌, ◌<◌, List, sym, ap, ◌∙◌, arith}
 use Rattle.std.specs.Prelude.{slice_index}
 use Rattle.bmp_math.specs.Sums.{sum_below}
-use Rattle.bmp_math.specs.Matrices.{Matrix, NumbersBelow, image}
+use Rattle.bmp_math.specs.Matrices.{Matrix, NumbersBelow, image, SameMatrix}
 use Rattle.bmp_math.proofs.SumLemmas.{sum_below_same}
 use Rattle.bmp_linear.specs.RowChanges.{IsRowAddedTo}
 use Rattle.bmp_graph.specs.Graph.{Graph, edge_count, lower}
@@ -10,7 +10,6 @@ use Rattle.bmp_sheaf.specs.Fields.{IsOverField}
 use Rattle.bmp_sheaf.specs.Sheaves.{SheafData}
 use Rattle.bmp_sheaf.specs.Coordinates.{stalk_count, edge_module_count, boundary_start}
 use Rattle.bmp_sheaf.specs.Numbers.{lower_matrix, boundary_matrix}
-use Rattle.bmp_sheaf.specs.EdgeMaps.{SameMatrix}
 use Rattle.bmp_sheaf.proofs.BoundaryNumbers.{boundary_place_below}
 use Rattle.bmp_sheaf.proofs.BoundaryMaps.{boundary_entry}
 

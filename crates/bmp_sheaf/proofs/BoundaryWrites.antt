@@ -2,7 +2,7 @@
 use Rattle.std.proofs.Common.{◌≡◌, ℕ, ◌+◌, ◌-◌, ◌*◌, ◌%◌, ◌^◌, ◌<◌, ◌≤◌, cond, eqb, length, set, get_or, refl, sym, ap, ◌∙◌, inl, inr, arith, get_or-set_same, get_or-set_other, length-set}
 use Rattle.std.specs.Prelude.{slice_index}
 use Rattle.std.proofs.lemmas.Bool.{cases_eq, cases_lt}
-use Rattle.bmp_math.specs.Matrices.{Matrix, image}
+use Rattle.bmp_math.specs.Matrices.{Matrix, image, SameMatrix}
 use Rattle.bmp_math.proofs.SumLemmas.{sum_below_rises}
 use Rattle.bmp_linear.specs.RowTables.{Work}
 use Rattle.bmp_graph.specs.Graph.{Graph, IsUpRange, edge_count, lower}
@@ -10,12 +10,11 @@ use Rattle.bmp_sheaf.specs.Fields.{IsOverField}
 use Rattle.bmp_sheaf.specs.Sheaves.{SheafData, boundary_of_element}
 use Rattle.bmp_sheaf.specs.Coordinates.{element_of, edge_module_count, boundary_start, boundary_count}
 use Rattle.bmp_sheaf.specs.Numbers.{boundary_number, lower_matrix}
-use Rattle.bmp_sheaf.specs.EdgeMaps.{SameMatrix}
 use Rattle.bmp_sheaf.specs.Boundaries.{KeepsRest, IsRunWritten, lift_numbers, IsBoundaryWritten}
 use Rattle.bmp_sheaf.proofs.EdgeMaps.{lower_image}
 use Rattle.bmp_sheaf.proofs.BoundaryMaps.{to_boundary_at}
 use Rattle.bmp_sheaf.proofs.UpEdges.{boundary_starts, boundary_goes_on, boundary_ends}
-use Rattle.bmp_sheaf.proofs.SameMatrices.{image_same}
+use Rattle.bmp_math.proofs.SameMatrices.{image_same}
 
 -- a run of numbers, one after another
 module _ (f : ℕ → ℕ) (start : ℕ) (old : Work) where
@@ -41,7 +40,7 @@ module _ (f : ℕ → ℕ) (start : ℕ) (old : Work) where
 module _ (G : Graph) (over : IsOverField G) (F : SheafData) (d e : ℕ) (below : e < edge_count G) (a : Matrix) (same : SameMatrix a (lower_matrix G F d e)) where
   pub lift_by_rows : (p : ℕ) (u : ℕ → ℕ) (i : ℕ) → p ≡ G.prime → i < edge_module_count G F d e → image a u i % p ≡ lift_numbers G F d e u i
   lift_by_rows p u i prime inside =
-      ap (λ z. image a u i % z) prime ∙ ap (λ z. z % G.prime) (image_same a (lower_matrix G F d e) same u i inside) ∙ lower_image G over F d e below u i inside
+      ap (λ z. image a u i % z) prime ∙ ap (λ z. z % G.prime) (image_same same u i inside) ∙ lower_image G over F d e below u i inside
 
 module _ (G : Graph) (F : SheafData) (x d : ℕ) (u : ℕ → ℕ) (old : Work) where
   abbrev pub numbers_of : ℕ → ℕ

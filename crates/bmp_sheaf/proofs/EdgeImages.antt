@@ -7,13 +7,12 @@ use Rattle.std.proofs.lemmas.List.{get_or_push, get_or_append_left, get_or_defau
 use Rattle.std.proofs.lemmas.List.Elements.{All-push}
 use Rattle.bmp_linear.specs.declared.vector.Entry.{Entry}
 use Rattle.bmp_linear.specs.SparseVectors.{ValuesBelow, number_at}
-use Rattle.bmp_poly.specs.Exponents.{IsMonomial}
 use Rattle.bmp_poly.specs.Coordinates.{IsLeading}
 use Rattle.bmp_graded.specs.NormalForms.{HasInverses}
 use Rattle.bmp_graded.specs.Quotients.{quotient}
 use Rattle.bmp_graded.specs.Maps.{projection}
 use Rattle.bmp_graded.proofs.CoordinateLemmas.{length_more}
-use Rattle.bmp_module.specs.FreeModules.{IsGenerator}
+use Rattle.bmp_graded.specs.Components.{IsGenerator}
 use Rattle.bmp_module.specs.Images.{image_coordinates}
 use Rattle.bmp_module.proofs.Extending.{image_read}
 use Rattle.bmp_sheaf.specs.Elements.{Element, SameElement}
@@ -23,7 +22,7 @@ use Rattle.bmp_sheaf.specs.Numbers.{edge_number}
 use Rattle.bmp_sheaf.specs.EdgeModules.{AreImagesOf}
 use Rattle.bmp_sheaf.proofs.EdgeNumbers.{edge_number_respects}
 use Rattle.bmp_sheaf.proofs.EdgeMaps.{element_respects}
-use Rattle.bmp_sheaf.proofs.ModuleLemmas.{component_is, edge_number_is, quotient_count}
+use Rattle.bmp_sheaf.proofs.ModuleLemmas.{generator_same, edge_number_is, quotient_count}
 
 -- the numbers of a vector are below p where its values are
 pub number_at_below : (v : List Entry) (j p : ℕ) → 0 < p → ValuesBelow v p → number_at v j < p
@@ -85,17 +84,11 @@ module _ (p r l : ℕ) (coords : List ℕ) (two : 2 ≤ p) (inverses : HasInvers
       ∙ sym (edge_number_is p r l a i (slice_index coords) into v (omega (arith, leads.here)) below)
       ∙ edge_number_respects p r l coords two inverses leads into a (element_of r into a v) u same i below
 
-  generator_same : (g : ℕ) (v : ℕ → ℕ) → IsGenerator r into g v → SameElement p r into (slice_index into g) (element_of r into (slice_index into g) v) (unit_element g)
-  generator_same g v is h s has m is_m =
-      let least : slice_index into h ≤ slice_index into g = omega (arith, has.1) in
-      let whole : slice_index into g - slice_index into h ≡ s = omega (arith, has.1) in
-      ap (λ z. z % p) (ap (λ (a : List ℕ → ℕ). a m) (sym (component_is r (slice_index into g) h into v has.0)) ∙ is h m has.0 least (subst (λ z. IsMonomial 6 r z m) (sym whole) is_m))
-
   pub generator_number : (a g i : ℕ) (v x : ℕ → ℕ) → a ≡ slice_index into g → IsGenerator r into g v
       → ((i : ℕ) → i < (quotient p (r - 1) l (slice_index coords) into).dim a → x i ≡ projection p (r - 1) l (slice_index coords) into a v i % p)
       → i < stalk_count (r - 1) into (slice_index into g) → x i ≡ edge_number p r (slice_index coords) l into (slice_index into g) (unit_element g) i
   generator_number a g i v x a_is is x_is below =
-      projected_number (slice_index into g) i v (unit_element g) x (generator_same g v is)
+      projected_number (slice_index into g) i v (unit_element g) x (generator_same p r g into v is)
       (subst (λ z. (i : ℕ) → i < (quotient p (r - 1) l (slice_index coords) into).dim z → x i ≡ projection p (r - 1) l (slice_index coords) into z v i % p) a_is x_is) below
 
   pub lift_number : (b a i : ℕ) (v u x : ℕ → ℕ) → b ≡ a → ((j : ℕ) → j < stalk_count r into a → v j ≡ u j)

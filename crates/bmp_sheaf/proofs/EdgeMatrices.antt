@@ -1,7 +1,7 @@
 -- The kept matrices of an edge are those of its two module maps.
 use Rattle.std.proofs.Common.{◌≡◌, ℕ, ◌-◌, ◌<◌, sym, ap, ◌∙◌, arith}
 use Rattle.std.proofs.Math.Nat.{mod-eq_of_lt}
-use Rattle.bmp_math.specs.Matrices.{Matrix}
+use Rattle.bmp_math.specs.Matrices.{Matrix, SameMatrix}
 use Rattle.bmp_poly.specs.Labels.{prime_of, rank_of, leading_of, coordinate_of}
 use Rattle.bmp_graded.specs.Quotients.{quotient}
 use Rattle.bmp_module.specs.declared.quotient.Quotient.{Quotient}
@@ -13,7 +13,6 @@ use Rattle.bmp_sheaf.specs.Fields.{IsOverField}
 use Rattle.bmp_sheaf.specs.Sheaves.{SheafData, lift_of}
 use Rattle.bmp_sheaf.specs.Coordinates.{leading, edge_module_count}
 use Rattle.bmp_sheaf.specs.Numbers.{unit_at, lower_matrix, upper_matrix}
-use Rattle.bmp_sheaf.specs.EdgeMaps.{SameMatrix}
 use Rattle.bmp_sheaf.specs.ModuleMaps.{stalk_module, edge_module, from_lower, from_upper}
 use Rattle.bmp_sheaf.specs.States.{SheafState, sheaf_of}
 use Rattle.bmp_sheaf.specs.StalkTables.{IsEdgeModule}

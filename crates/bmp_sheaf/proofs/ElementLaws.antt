@@ -9,7 +9,8 @@ use Rattle.bmp_poly.specs.Forms.{Congruent}
 use Rattle.bmp_poly.proofs.LabelLemmas.{congruent_refl, congruent_sym, congruent_trans, congruent_add, congruent_mul}
 use Rattle.bmp_poly.proofs.ShiftedMultiples.{congruent_shift}
 use Rattle.bmp_sheaf.specs.Elements.{Element, HasComponent, SameElement, CongruentElement, zero_element, monomial_times}
-use Rattle.bmp_sheaf.proofs.ShiftLaws.{shift_below, shift_same}
+use Rattle.bmp_graded.proofs.ReducedLaws.{shift_same}
+use Rattle.bmp_sheaf.proofs.ShiftLaws.{shift_below}
 
 -- a component of a multiple is the multiple of a component, or it's of a lower degree than the monomial
 lower_component : (degrees : List ℕ) (d k t g s : ℕ) → d + k ≡ t → k ≤ s → HasComponent degrees t g s → HasComponent degrees d g (s - k)
@@ -43,7 +44,7 @@ module _ (p r : ℕ) (degrees : List ℕ) (d : ℕ) where
   pub same_monomial : (k t : ℕ) (n : List ℕ) (u a : Element) → IsMonomial 6 r k n → d + k ≡ t → SameElement p r degrees d u a → SameElement p r degrees t (monomial_times n u) (monomial_times n a)
   same_monomial k t n u a is_n total h g s has = elim (cases_lt s k) [
     | inl below ↦ λ m is. ap (λ z. z % p) (shift_below r k s n m (u g) is_n is below ∙ sym (shift_below r k s n m (a g) is_n is below))
-    | inr within ↦ shift_same p r (s - k) k s n (u g) (a g) is_n (omega arith) (h g (s - k) (lower_component degrees d k t g s total within has))
+    | inr within ↦ shift_same p 6 r (s - k) k s n (u g) (a g) is_n (omega arith) (h g (s - k) (lower_component degrees d k t g s total within has))
   ]
 
   -- an element and its negative cancel

@@ -24,16 +24,15 @@ pub mod SameMatrices
 pub mod StalkTableLemmas
 pub mod RuleLemmas
 pub mod NewStalks
+pub mod PoppedStalks
 pub mod NewModules
 pub mod NewMaps
 pub mod BoundaryWrites
 pub mod BoundaryRowLemmas
 pub mod SizeLemmas
 pub mod Agreement
-pub mod MonomialLemmas
 pub mod RowLemmas
 pub mod ModuleLemmas
 pub mod EdgeMatrices
-pub mod Determined
 pub mod EdgeColumns
 pub mod EdgeImages

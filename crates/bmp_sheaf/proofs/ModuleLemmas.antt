@@ -19,7 +19,7 @@ use Rattle.bmp_graded.specs.Modules.{polynomials, moved, free}
 use Rattle.bmp_graded.specs.NormalForms.{HasInverses, normal_by}
 use Rattle.bmp_graded.specs.Quotients.{insert, reduced, quotient}
 use Rattle.bmp_graded.specs.Maps.{project_one, projection}
-use Rattle.bmp_graded.specs.Components.{component, IsSameModulo}
+use Rattle.bmp_graded.specs.Components.{component, IsGenerator, IsSameModulo}
 use Rattle.bmp_graded.proofs.Totals.{total, total_taken, total_front}
 use Rattle.bmp_graded.proofs.CopiesLemmas.{block_dim, block_act, copies_dim, copies_act, moved_act_none, moved_act_from}
 use Rattle.bmp_graded.proofs.ComponentLemmas.{start_of, component_at}
@@ -27,6 +27,7 @@ use Rattle.bmp_graded.proofs.BlockActs.{blockwise_at}
 use Rattle.bmp_graded.proofs.PassLaws.{quotients_are_modules}
 use Rattle.bmp_graded.proofs.ProjectionMaps.{projections_are_maps}
 use Rattle.bmp_sheaf.specs.Elements.{Element, HasComponent, SameElement, CongruentElement, monomial_times, extension}
+use Rattle.bmp_sheaf.specs.Units.{unit_element}
 use Rattle.bmp_sheaf.specs.Coordinates.{component_count, stalk_start, stalk_count, element_of}
 use Rattle.bmp_sheaf.specs.Numbers.{edge_number}
 use Rattle.bmp_sheaf.proofs.ShiftLaws.{shift_below}
@@ -48,7 +49,7 @@ total_below n gs (suc h) inside =
     more ∙ ap (λ z. z + n (get_or gs h 0)) (total_below n gs h (omega arith))
 
 -- how many coordinates a generator has
-free_block : (r d g : ℕ) → block_dim (polynomials r) d g ≡ component_count r d g
+pub free_block : (r d g : ℕ) → block_dim (polynomials r) d g ≡ component_count r d g
 unfolding moved polynomials
 free_block r d g = refl
 
@@ -79,6 +80,13 @@ quotient_count p r l d c gs =
 -- the polynomials are those of the element
 pub component_is : (r d h : ℕ) (gs : List ℕ) (v : ℕ → ℕ) → h < length gs → component r gs h d v ≡ element_of r gs d v h
 component_is r d h gs v inside = fun_ext (λ m. component_at r d h gs v m inside ∙ ap (λ z. v (z + place r m)) (start_is r d h gs (omega arith)))
+
+-- the generators are the unit elements
+pub generator_same : (p r g : ℕ) (gs : List ℕ) (v : ℕ → ℕ) → IsGenerator r gs g v → SameElement p r gs (slice_index gs g) (element_of r gs (slice_index gs g) v) (unit_element g)
+generator_same p r g gs v is h s has m is_m =
+    let least : slice_index gs h ≤ slice_index gs g = omega (arith, has.1) in
+    let whole : slice_index gs g - slice_index gs h ≡ s = omega (arith, has.1) in
+    ap (λ z. z % p) (ap (λ (a : List ℕ → ℕ). a m) (sym (component_is r (slice_index gs g) h gs v has.0)) ∙ is h m has.0 least (subst (λ z. IsMonomial 6 r z m) (sym whole) is_m))
 
 -- equal modulo the linear form is congruent
 module _ (p r d : ℕ) (c : ℕ → ℕ) (gs : List ℕ) (u v : ℕ → ℕ) where

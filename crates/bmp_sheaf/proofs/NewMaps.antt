@@ -6,7 +6,7 @@ use Rattle.std.proofs.Math.Path.{fun_ext}
 use Rattle.std.proofs.lemmas.Bool.{cases_eq}
 use Rattle.std.proofs.lemmas.List.{get_or_push, get_or_append_left, get_or-take, get_or-drop, length-take}
 use Rattle.std.proofs.lemmas.Nat.{div-mul-add, mod-mul-add, mul-add-lt}
-use Rattle.bmp_math.specs.Matrices.{Matrix}
+use Rattle.bmp_math.specs.Matrices.{Matrix, SameMatrix}
 use Rattle.bmp_math.proofs.SumLemmas.{sum_below_same}
 use Rattle.bmp_linear.specs.declared.vector.Entry.{Entry}
 use Rattle.bmp_linear.specs.SparseVectors.{FitsBelow, ValuesBelow, number_at}
@@ -25,7 +25,7 @@ use Rattle.bmp_sheaf.specs.Written.{first_edge, up_count, IsUpPlace, lift_place}
 use Rattle.bmp_module.specs.NormalTables.{label_of}
 use Rattle.bmp_module.specs.declared.normal_table.NormalTable.{NormalTable}
 use Rattle.bmp_sheaf.specs.LabelTables.{IsTableOf}
-use Rattle.bmp_sheaf.specs.EdgeMaps.{LiftsFit, lift_by, lower_map, upper_map, SameMatrix}
+use Rattle.bmp_sheaf.specs.EdgeMaps.{LiftsFit, lift_by, lower_map, upper_map}
 use Rattle.bmp_sheaf.specs.States.{Stalk, SheafState, stalk_of, next_vertex, with_stalk, sheaf_of}
 use Rattle.bmp_sheaf.specs.StalkFaults.{IsStalk}
 use Rattle.bmp_sheaf.specs.StalkTables.{StalkTable, AreModulesUp, AreMapsUp, IsStalkTable, stalk_in, map_place}

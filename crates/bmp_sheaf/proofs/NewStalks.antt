@@ -3,6 +3,7 @@ use Rattle.std.proofs.Common.{◌≡◌, ℕ, ◌+◌, ◌-◌, ◌*◌, ◌/◌
 use Rattle.std.specs.Prelude.{slice_index}
 use Rattle.std.proofs.lemmas.Bool.{cases_eq}
 use Rattle.std.proofs.lemmas.List.{get_or_push, get_or_append_left, map_push}
+use Rattle.bmp_math.specs.Matrices.{SameMatrix}
 use Rattle.bmp_linear.specs.declared.vector.Entry.{Entry}
 use Rattle.bmp_linear.specs.SparseVectors.{FitsBelow}
 use Rattle.bmp_linear.specs.RowTables.{matrix_of_entries}
@@ -12,7 +13,6 @@ use Rattle.bmp_graded.proofs.CoordinateLemmas.{length_more}
 use Rattle.bmp_module.specs.declared.quotient.Quotient.{Quotient}
 use Rattle.bmp_sheaf.specs.Coordinates.{stalk_count}
 use Rattle.bmp_sheaf.specs.Written.{first_edge, up_count}
-use Rattle.bmp_sheaf.specs.EdgeMaps.{SameMatrix}
 use Rattle.bmp_sheaf.specs.declared.label_tables.LabelTables.{LabelTables}
 use Rattle.bmp_sheaf.specs.LabelTables.{HasTables}
 use Rattle.bmp_sheaf.specs.States.{Stalk, no_stalk, SheafState, IsState, stalk_of, IsThere, next_vertex, with_stalk, sheaf_of}

@@ -8,38 +8,14 @@ use Rattle.bmp_math.proofs.CongruenceLemmas.{same_mul}
 use Rattle.bmp_poly.specs.Exponents.{IsMonomial, count, place, exponents}
 use Rattle.bmp_poly.specs.Forms.{Form, Congruent}
 use Rattle.bmp_poly.specs.Coordinates.{IsLeading}
-use Rattle.bmp_poly.proofs.PlaceLemmas.{exponents_stand, exponents-place, place_below, StandsAt}
+use Rattle.bmp_poly.proofs.PlaceLemmas.{exponents-place, place_below}
 use Rattle.bmp_graded.specs.NormalForms.{HasInverses, normal_by}
-use Rattle.bmp_graded.specs.Quotients
 use Rattle.bmp_graded.specs.Quotients.{insert}
-use Rattle.bmp_graded.proofs.PureLemmas.{remove_parts}
-use Rattle.bmp_graded.proofs.QuotientLemmas.{insert_at, insert_monomial, remove_insert, insert_remove}
+use Rattle.bmp_graded.proofs.PureLemmas.{without_monomial}
+use Rattle.bmp_graded.proofs.QuotientLemmas.{insert_remove}
 use Rattle.bmp_graded.proofs.NormalLaws.{normal_is, normal_congruent, congruent_normal, normal-plus, normal-times}
 use Rattle.bmp_module.specs.Tables.{normal_number}
-use Rattle.bmp_sheaf.proofs.StalkPlaces.{removed_monomial}
-
-removed_same : (m : List ℕ) (l : ℕ) → remove m l ≡ Quotients.remove l m
-removed_same m l = sym (remove_parts l m)
-
--- m is a monomial of degree s without the l-th of the r variables, the one at place i of these
-pub record IsPureAt (r l s i : ℕ) (m : List ℕ) : Type 0 where
-  pub is_monomial : IsMonomial 6 r s m
-  pub is_pure : slice_index m l ≡ 0
-  pub place_is : place (r - 1) (remove m l) ≡ i
-
-pub pure_at : (r l s i : ℕ) → l < r → r ≤ 6 → i < count (r - 1) s → IsPureAt r l s i (insert l (exponents 5 (r - 1) s i))
-pure_at zero l s i below wide inside = absurd (omega arith)
-pure_at (suc r) l s i below wide inside =
-    let one_fewer : suc r - 1 ≡ r = omega arith in
-    let stands : StandsAt 5 r s i (exponents 5 r s i) = exponents_stand 5 r s i (omega arith) (rw one_fewer at inside) in
-    let long : length (exponents 5 r s i) ≡ 5 = stands.monomial.long in
-    let back : remove (insert l (exponents 5 r s i)) l ≡ exponents 5 r s i = removed_same (insert l (exponents 5 r s i)) l ∙ remove_insert l (exponents 5 r s i) (omega arith) in
-    rw one_fewer
-    (record {
-      is_monomial = insert_monomial 5 r s l (exponents 5 r s i) (omega arith) (omega arith) stands.monomial;
-      is_pure = insert_at l (exponents 5 r s i);
-      place_is = rw one_fewer (ap (place r) back ∙ stands.place_is);
-    })
+use Rattle.bmp_sheaf.proofs.StalkPlaces.{removed_same, removed_monomial}
 
 module _ (l s : ℕ) (m : List ℕ) where
   pub pure_place_below : (r : ℕ) → l < r → r ≤ 6 → IsMonomial 6 r s m → slice_index m l ≡ 0 → place (r - 1) (remove m l) < count (r - 1) s
@@ -69,7 +45,7 @@ module _ (p r l : ℕ) (coords : List ℕ) (two : 2 ≤ p) (inverses : HasInvers
   normal_number_at a m is pure = ap (λ z. normal_by p r l (slice_index coords) s a z % p) (pure-again l s m r leads.here leads.rank is pure)
 
   pub normal_numbers_same : (a b : Form) → Congruent p 6 r s (slice_index coords) a b → (i : ℕ) → i < count (r - 1) s → numbers a i ≡ numbers b i
-  normal_numbers_same a b h i below = normal_congruent p r l coords two inverses leads s a b h (insert l (exponents 5 (r - 1) s i)) (pure_at r l s i leads.here leads.rank below).is_monomial
+  normal_numbers_same a b h i below = normal_congruent p r l coords two inverses leads s a b h (insert l (exponents 5 (r - 1) s i)) (without_monomial r l s i leads.here leads.rank below)
 
   pub same_normal_numbers : (a b : Form) → ((i : ℕ) → i < count (r - 1) s → numbers a i ≡ numbers b i) → Congruent p 6 r s (slice_index coords) a b
   same_normal_numbers a b h =
@@ -83,7 +59,7 @@ module _ (p r l : ℕ) (coords : List ℕ) (two : 2 ≤ p) (inverses : HasInvers
   normal_number-plus a b i below =
       let at = insert l (exponents 5 (r - 1) s i) in
       mod-mod (normal_by p r l (slice_index coords) s (λ m. a m + b m) at) p
-      ∙ normal-plus p r l coords two inverses leads s a b at (pure_at r l s i leads.here leads.rank below).is_monomial
+      ∙ normal-plus p r l coords two inverses leads s a b at (without_monomial r l s i leads.here leads.rank below)
       ∙ add-mod (normal_by p r l (slice_index coords) s a at) (normal_by p r l (slice_index coords) s b at) p
 
   pub normal_number-times : (x : ℕ) (a : Form) → SameVector p (count (r - 1) s) (numbers (λ m. x * a m)) (λ i. x * numbers a i)
@@ -91,5 +67,5 @@ module _ (p r l : ℕ) (coords : List ℕ) (two : 2 ≤ p) (inverses : HasInvers
       let at = insert l (exponents 5 (r - 1) s i) in
       let number = normal_by p r l (slice_index coords) s a at in
       mod-mod (normal_by p r l (slice_index coords) s (λ m. x * a m) at) p
-      ∙ normal-times p r l coords two inverses leads s x a at (pure_at r l s i leads.here leads.rank below).is_monomial
+      ∙ normal-times p r l coords two inverses leads s x a at (without_monomial r l s i leads.here leads.rank below)
       ∙ same_mul p x x number (number % p) refl (sym (mod-mod number p))

@@ -1,7 +1,7 @@
--- A polynomial times a constant, and a monomial times one.
-use Rattle.std.proofs.Common.{◌≡◌, ℕ, ◌+◌, ◌*◌, ◌≤◌, ◌⊎◌, true, false, leb, List, [], ◌∷◌, ap, subst, ◌∙◌, inl, inr, arith, refl}
+-- A polynomial times a constant.
+use Rattle.std.proofs.Common.{◌≡◌, ℕ, ◌+◌, ◌*◌, ◌≤◌, ◌⊎◌, true, false, List, ap, subst, ◌∙◌, inl, inr, arith}
 use Rattle.std.proofs.Math.Path.{fun_ext}
-use Rattle.std.proofs.lemmas.Bool.{cases_Bool, and_from, le-leb}
+use Rattle.std.proofs.lemmas.Bool.{cases_Bool}
 use Rattle.bmp_math.proofs.SumLemmas.{sum_below_same, sum_below-zeros}
 use Rattle.bmp_poly.specs.Exponents.{IsMonomial, count, exponents}
 use Rattle.bmp_poly.specs.Forms.{Form}
@@ -9,15 +9,6 @@ use Rattle.bmp_poly.specs.Shifts.{contains, less, shift}
 use Rattle.bmp_poly.specs.Products.{product}
 use Rattle.bmp_poly.proofs.ProductLemmas.{product-comm}
 use Rattle.bmp_poly.proofs.ProductLemmas.{product-one as one-product}
-
-pub contains_itself : (e : List ℕ) → contains e e ≡ true
-unfolding contains
-contains_itself [] = refl
-contains_itself (x ∷ e) = and_from (leb x x) (contains e e) (le-leb x x (omega arith)) (contains_itself e)
-
--- at the monomial itself stands the constant
-pub shift_itself : (b : Form) (m : List ℕ) → shift m b m ≡ b (less m m)
-shift_itself b m = rw (contains_itself m) refl
 
 -- a times the constant 1
 pub product-one : (r s : ℕ) (a b : Form) (m : List ℕ) → r ≤ 6 → IsMonomial 6 r s m → ((n : List ℕ) → b n ≡ 1) → product 6 r s a b m ≡ a m

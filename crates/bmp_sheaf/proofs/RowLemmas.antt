@@ -3,11 +3,9 @@ use Rattle.std.proofs.Common.{◌≡◌, ℕ, ◌+◌, ◌*◌, ◌<◌, List, [
 use Rattle.std.specs.Prelude.{slice_index}
 use Rattle.std.proofs.lemmas.Bool.{cases_eq}
 use Rattle.std.proofs.lemmas.List.Elements.{All-push}
-use Rattle.bmp_math.specs.Matrices.{Matrix, NumbersBelow}
+use Rattle.bmp_math.specs.Matrices.{Matrix}
 use Rattle.bmp_linear.specs.declared.vector.Entry.{Entry}
 use Rattle.bmp_linear.specs.SparseVectors.{FitsBelow, ValuesBelow, number_at}
-use Rattle.bmp_sheaf.specs.EdgeMaps.{SameMatrix}
-use Rattle.bmp_module.specs.Columns.{HasColumnsOf}
 use Rattle.bmp_linear.proofs.SparseLemmas.{number_at-past, number_at-push_same, number_at-push_other}
 
 -- the row has row i of the first n columns, each of as many numbers as there are rows
@@ -49,23 +47,3 @@ pub record HasRowsBelow (rows cols : ℕ) (columns : List ℕ) (n : ℕ) (a : Ma
   pub counted : a.rows ≡ n
   pub wide : a.cols ≡ cols
   pub entries : (i j : ℕ) → i < n → j < cols → a.entry i j ≡ slice_index columns (j * rows + i)
-
--- numbers that are the columns of a matrix
-module _ (a : Matrix) (rows cols : ℕ) (items numbers : List ℕ) (rows_is : rows ≡ a.rows) (cols_is : cols ≡ a.cols) (read : numbers ≡ items) (has : HasColumnsOf a items) where
-  number_is : (i j : ℕ) → i < a.rows → j < a.cols → slice_index numbers (j * rows + i) ≡ a.entry i j
-  number_is i j inside below =
-      let start : j * rows + i ≡ 0 + (j * a.rows + i) = ap (λ z. j * z + i) rows_is ∙ omega arith in
-      ap (slice_index numbers) start ∙ ap (λ xs. slice_index xs (0 + (j * a.rows + i))) read ∙ has.each j i below inside
-
-  pub column_numbers_below : (p : ℕ) → NumbersBelow p a → (i j : ℕ) → i < rows → j < cols → slice_index numbers (j * rows + i) < p
-  column_numbers_below p small i j inside below =
-      let inside_is : i < a.rows = subst (λ z. i < z) rows_is inside in
-      let below_is : j < a.cols = subst (λ z. j < z) cols_is below in
-      subst (λ z. z < p) (sym (number_is i j inside_is below_is)) (small i j inside_is below_is)
-
-  pub same_as_columns : (b : Matrix) → SameMatrix b (record { rows = rows; cols = cols; entry = λ i j. slice_index numbers (j * rows + i) }) → SameMatrix b a
-  same_as_columns b same = record {
-    rows = same.rows ∙ rows_is;
-    cols = same.cols ∙ cols_is;
-    entries = λ i j inside below. same.entries i j (subst (λ z. i < z) (sym rows_is) inside) (subst (λ z. j < z) (sym cols_is) below) ∙ number_is i j inside below;
-  }

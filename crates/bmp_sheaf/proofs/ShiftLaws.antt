@@ -1,12 +1,12 @@
 -- A monomial times multiples, times sums, times the same polynomial; and at monomials of a lower degree.
-use Rattle.std.proofs.Common.{◌≡◌, ℕ, ◌+◌, ◌*◌, ◌%◌, ◌<◌, true, false, cond, List, sym, refl, ap, ◌∙◌, inl, inr, arith}
-use Rattle.std.proofs.lemmas.Bool.{cases_Bool, cond-true, cond-false}
+use Rattle.std.proofs.Common.{◌≡◌, ℕ, ◌*◌, ◌<◌, true, false, cond, List, sym, refl, ◌∙◌, inl, inr, arith}
+use Rattle.std.proofs.lemmas.Bool.{cases_Bool, cond-false}
 use Rattle.bmp_math.specs.Sums.{sum_below}
 use Rattle.bmp_math.proofs.SumLemmas.{sum_below-zeros}
 use Rattle.bmp_poly.specs.Exponents.{IsMonomial}
-use Rattle.bmp_poly.specs.Forms.{Form, SameForm}
+use Rattle.bmp_poly.specs.Forms.{Form}
 use Rattle.bmp_poly.specs.Shifts.{contains, less, shift}
-use Rattle.bmp_poly.proofs.ShiftLemmas.{sum-less, less_monomial}
+use Rattle.bmp_poly.proofs.ShiftLemmas.{sum-less}
 
 pub shift-zero : (n m : List ℕ) → shift n (λ e. 0) m ≡ 0
 shift-zero n m = elim (contains m n) as (λ b. ◌≡◌ {A = ℕ} (cond b 0 0) 0) [ true ↦ refl | false ↦ refl ]
@@ -22,13 +22,4 @@ pub shift_below : (r k s : ℕ) (n m : List ℕ) (a : Form) → IsMonomial 6 r k
 shift_below r k s n m a is_n is_m smaller = elim (cases_Bool (contains m n)) [
   | inl held ↦ absurd (omega (arith, sum-less m n (is_m.long ∙ sym is_n.long) held, is_n.size, is_m.size))
   | inr apart ↦ cond-false {A = ℕ} (contains m n) (a (less m n)) 0 apart
-]
-
-pub shift_same : (p r d k t : ℕ) (n : List ℕ) (a b : Form) → IsMonomial 6 r k n → d + k ≡ t → SameForm p 6 r d a b → SameForm p 6 r t (shift n a) (shift n b)
-shift_same p r d k t n a b is_n total same m is_m = elim (cases_Bool (contains m n)) [
-  | inl held ↦
-      ap (λ z. z % p) (cond-true {A = ℕ} (contains m n) (a (less m n)) 0 held)
-      ∙ same (less m n) (less_monomial 6 r d k t m n is_m is_n total held)
-      ∙ ap (λ z. z % p) (sym (cond-true {A = ℕ} (contains m n) (b (less m n)) 0 held))
-  | inr apart ↦ ap (λ z. z % p) (cond-false {A = ℕ} (contains m n) (a (less m n)) 0 apart ∙ sym (cond-false {A = ℕ} (contains m n) (b (less m n)) 0 apart))
 ]

@@ -1,38 +1,23 @@
 -- Places of coordinates lie below their number.
-use Rattle.std.proofs.Common.{◌≡◌, ℕ, zero, suc, ◌+◌, ◌-◌, ◌<◌, ◌≤◌, leb, List, [], ◌∷◌, length, refl, ap, ◌∙◌, arith}
+use Rattle.std.proofs.Common.{◌≡◌, ℕ, zero, suc, ◌+◌, ◌-◌, ◌<◌, ◌≤◌, leb, List, length, sym, ap, subst, ◌∙◌, arith}
 use Rattle.std.specs.Prelude.{slice_index, remove}
-use Rattle.std.specs.List.{sum}
 use Rattle.std.proofs.lemmas.Bool.{cond-true, le-leb}
-use Rattle.std.proofs.lemmas.List.Edits.{length-remove}
 use Rattle.bmp_math.proofs.SumLemmas.{sum_below-suc, sum_below_rises}
 use Rattle.bmp_poly.specs.Exponents.{IsMonomial, count, place}
-use Rattle.bmp_poly.proofs.PlaceLemmas.{sum-cons, place_below}
+use Rattle.bmp_poly.proofs.PlaceLemmas.{place_below}
+use Rattle.bmp_graded.specs.Quotients
+use Rattle.bmp_graded.proofs.PureLemmas.{remove_parts}
+use Rattle.bmp_graded.proofs.QuotientLemmas.{remove_monomial}
 use Rattle.bmp_sheaf.specs.Elements.{HasComponent}
 use Rattle.bmp_sheaf.specs.Coordinates.{component_count, stalk_start, stalk_count, stalk_place, edge_place}
 
--- what stands behind the removed place moves one place down
-removed_at : (e : List ℕ) (l k : ℕ) → l ≤ k → slice_index (remove e l) k ≡ slice_index e (suc k)
-removed_at [] zero k h = refl
-removed_at [] (suc l) k h = refl
-removed_at (x ∷ e) zero k h = refl
-removed_at (x ∷ e) (suc l) zero h = absurd (omega arith)
-removed_at (x ∷ e) (suc l) (suc k) h = removed_at e l k (omega arith)
-
--- a 0 may be taken out of a sum
-sum-removed : (e : List ℕ) (l : ℕ) → l < length e → slice_index e l ≡ 0 → sum (remove e l) ≡ sum e
-sum-removed [] l h none = absurd (omega arith)
-sum-removed (x ∷ e) zero h none = let first : x ≡ 0 = none in omega (arith, sum-cons x e)
-sum-removed (x ∷ e) (suc l) h none = omega (arith, sum-cons x (remove e l), sum-cons x e, sum-removed e l (omega arith) none)
+-- the two ways to say that the variable l is taken out
+pub removed_same : (m : List ℕ) (l : ℕ) → remove m l ≡ Quotients.remove l m
+removed_same m l = sym (remove_parts l m)
 
 -- a monomial without the variable l is one in a variable fewer
 pub removed_monomial : (w r s l : ℕ) (e : List ℕ) → l < suc r → suc r ≤ suc w → IsMonomial (suc w) (suc r) s e → slice_index e l ≡ 0 → IsMonomial w r s (remove e l)
-removed_monomial w r s l e below wide is pure =
-    let within : l < length e = omega (arith, is.long) in
-    record {
-      long = omega (arith, length-remove e l within, is.long);
-      size = sum-removed e l within pure ∙ is.size;
-      past = λ k h. removed_at e l k (omega arith) ∙ is.past (suc k) (omega arith);
-    }
+removed_monomial w r s l e below wide is pure = subst (IsMonomial w r s) (sym (removed_same e l)) (remove_monomial w r s l e (omega arith) (omega arith) pure is)
 
 -- the polynomial at the generator has as many coefficients as there are monomials of its degree
 pub component_is_count : (r s d e : ℕ) → e + s ≡ d → component_count r d e ≡ count r s

@@ -4,7 +4,7 @@ use Rattle.std.specs.Prelude.{slice_index, slice_index_or}
 use Rattle.std.proofs.lemmas.List.{get_or_read}
 use Rattle.std.proofs.Math.Nat.{mul-le-mul_right}
 use Rattle.std.proofs.lemmas.Nat.{div-mul-add, mod-mul-add, mul-add-lt}
-use Rattle.bmp_math.specs.Matrices.{Matrix, NumbersBelow}
+use Rattle.bmp_math.specs.Matrices.{Matrix, NumbersBelow, SameMatrix}
 use Rattle.bmp_linear.specs.declared.vector.Entry.{Entry}
 use Rattle.bmp_linear.specs.SparseVectors.{FitsBelow}
 use Rattle.bmp_linear.specs.RowTables.{EntryTable, matrix_of_entries}
@@ -14,11 +14,10 @@ use Rattle.bmp_sheaf.specs.Fields.{IsOverField}
 use Rattle.bmp_sheaf.specs.Coordinates.{stalk_count}
 use Rattle.bmp_sheaf.specs.Numbers.{lower_matrix, upper_matrix}
 use Rattle.bmp_sheaf.specs.Written.{first_edge, up_count, IsUpPlace}
-use Rattle.bmp_sheaf.specs.EdgeMaps.{SameMatrix}
 use Rattle.bmp_sheaf.specs.States.{SheafState, stalk_of, sheaf_of}
 use Rattle.bmp_sheaf.specs.StalkFaults.{lift_room, IsStalk}
 use Rattle.bmp_sheaf.specs.StalkTables.{StalkTable, IsEdgeModule, AreMapsUp, IsStalkTable, map_place}
-use Rattle.bmp_sheaf.proofs.SameMatrices.{numbers_below_same}
+use Rattle.bmp_math.proofs.SameMatrices.{numbers_below_same}
 use Rattle.bmp_sheaf.proofs.EdgeMaps.{lower_numbers_below, upper_numbers_below}
 
 -- lifts stand by edge and then by generator
@@ -55,10 +54,10 @@ module _ {F : Type 0} (s : SheafState F) (x : ℕ) (t : StalkTable) (is : IsStal
     upper_kept = map_kept (upper_matrix s.graph (sheaf_of s)) t.upper is.upper_maps
 
     pub lower_kept_below : IsOverField s.graph → rows ≡ get_or t.lower k rows → NumbersBelow s.graph.prime (matrix_of_entries rows)
-    lower_kept_below over read = numbers_below_same (matrix_of_entries rows) (lower_matrix s.graph (sheaf_of s) d e) (lower_kept read) s.graph.prime (lower_numbers_below s.graph over (sheaf_of s) d e below)
+    lower_kept_below over read = numbers_below_same (lower_kept read) s.graph.prime (lower_numbers_below s.graph over (sheaf_of s) d e below)
 
     pub upper_kept_below : IsOverField s.graph → rows ≡ get_or t.upper k rows → NumbersBelow s.graph.prime (matrix_of_entries rows)
-    upper_kept_below over read = numbers_below_same (matrix_of_entries rows) (upper_matrix s.graph (sheaf_of s) d e) (upper_kept read) s.graph.prime (upper_numbers_below s.graph over (sheaf_of s) d e below)
+    upper_kept_below over read = numbers_below_same (upper_kept read) s.graph.prime (upper_numbers_below s.graph over (sheaf_of s) d e below)
 
   -- the module of the edge e
   pub module_kept : (k : ℕ) (m : Quotient) → IsUpPlace s.graph (lower s.graph e) e k → m ≡ get_or t.edges k m → IsEdgeModule s e m

@@ -4,9 +4,9 @@
 --   lift_by r from into lifts g            the lift of the generator g, where `from` is the degrees below and `into` those above
 --   lower_map p r c l from into lifts d    the matrix of the lift: a row for each coordinate on the edge, a column for each of the lower stalk
 --   upper_map p r c l into d               the matrix of the upper stalk's map to the edge module
---   SameMatrix a b                         equal sizes, and equal numbers below them
-use Rattle.std.specs.Prelude.{◌≡◌, ℕ, ◌-◌, ◌<◌, List, [], length, slice_index, slice_index_or}
+use Rattle.std.specs.Prelude.{ℕ, ◌-◌, ◌<◌, List, [], length, slice_index, slice_index_or}
 use Rattle.bmp_math.specs.Matrices.{Matrix}
+pub use Rattle.bmp_math.specs.Matrices.{SameMatrix}
 use Rattle.bmp_linear.specs.declared.vector.Entry.{Entry}
 use Rattle.bmp_linear.specs.SparseVectors.{FitsBelow, number_at}
 use Rattle.bmp_sheaf.specs.Elements.{Element, extension}
@@ -32,8 +32,3 @@ upper_map p r c l into d = record {
   cols = stalk_count r into d;
   entry = λ i j. edge_number p r c l into d (unit_at r into d j) i;
 }
-
-pub record SameMatrix (a b : Matrix) : Type 0 where
-  pub rows : a.rows ≡ b.rows
-  pub cols : a.cols ≡ b.cols
-  pub entries : (i j : ℕ) → i < b.rows → j < b.cols → a.entry i j ≡ b.entry i j

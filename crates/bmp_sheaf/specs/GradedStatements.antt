@@ -6,6 +6,7 @@
 --   EdgeMapsAreModuleMaps        the maps from the stalks at both ends of an edge to its module are module maps
 --   EdgeMatricesAreOfModuleMaps  the two matrices of an edge are the matrices of these module maps
 use Rattle.std.specs.Prelude.{◌≡◌, ◌↔◌, ℕ, ◌-◌, ◌%◌, ◌<◌, List, length}
+use Rattle.bmp_math.specs.Matrices.{SameMatrix}
 use Rattle.bmp_graded.specs.Graded.{IsModuleMap}
 use Rattle.bmp_graded.specs.Modules.{free}
 use Rattle.bmp_graded.specs.Quotients.{quotient}
@@ -18,7 +19,6 @@ use Rattle.bmp_sheaf.specs.Elements.{CongruentElement}
 use Rattle.bmp_sheaf.specs.Sheaves.{SheafData}
 use Rattle.bmp_sheaf.specs.Coordinates.{stalk_count, element_of}
 use Rattle.bmp_sheaf.specs.Numbers.{edge_number, lower_matrix, upper_matrix}
-use Rattle.bmp_sheaf.specs.EdgeMaps.{SameMatrix}
 use Rattle.bmp_sheaf.specs.ModuleMaps.{stalk_module, edge_module, from_lower, from_upper}
 
 abbrev pub StalksAreFreeModules : Type 0

@@ -11,7 +11,7 @@
 --   IsKept p s labels ts     s is kept in these tables, and in those of normal forms by its labels, over a field of p elements
 use Rattle.std.specs.Prelude.{◌≡◌, ℕ, ◌+◌, ◌-◌, ◌*◌, ◌^◌, ◌<◌, ◌≤◌, List, [], length, slice_index_or}
 use Rattle.std.specs.List.{All}
-use Rattle.bmp_math.specs.Matrices.{Matrix}
+use Rattle.bmp_math.specs.Matrices.{Matrix, SameMatrix}
 use Rattle.bmp_linear.specs.declared.vector.Entry.{Entry}
 use Rattle.bmp_linear.specs.SparseVectors.{ValuesBelow}
 use Rattle.bmp_linear.specs.RowTables.{EntryTable, matrix_of_entries}
@@ -23,7 +23,6 @@ use Rattle.bmp_graph.specs.Graph.{Graph, vertex_count, edge_count, lower, upper,
 use Rattle.bmp_sheaf.specs.Coordinates.{leading}
 use Rattle.bmp_sheaf.specs.Numbers.{lower_matrix, upper_matrix}
 use Rattle.bmp_sheaf.specs.Written.{first_edge, up_count}
-use Rattle.bmp_sheaf.specs.EdgeMaps.{SameMatrix}
 use Rattle.bmp_sheaf.specs.declared.label_tables.LabelTables.{LabelTables}
 use Rattle.bmp_sheaf.specs.LabelTables.{HasTables}
 use Rattle.bmp_sheaf.specs.States.{Stalk, SheafState, IsState, stalk_of, IsThere, sheaf_of}

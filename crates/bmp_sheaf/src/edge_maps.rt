@@ -1,5 +1,6 @@
 //! The two maps of one edge, in one degree, as sparse rows.
 ghost use Rattle.std.specs.Prelude.{◌≡◌, ℕ, ◌+◌, ◌-◌, ◌*◌, ◌^◌, ◌<◌, ◌≤◌, [], All, IfOk, OnOk, length, slice_index, slice_index_or};
+ghost use Rattle.bmp_math.specs.Matrices.{SameMatrix};
 ghost use Rattle.bmp_linear.specs.SparseVectors.{FitsBelow, ValuesBelow, number_at};
 ghost use Rattle.bmp_linear.specs.RowTables.{matrix_of_entries};
 ghost use Rattle.bmp_poly.specs.Labels.{prime_of, rank_of as label_rank_of, leading_of, coordinate_of};
@@ -14,7 +15,7 @@ ghost use Rattle.bmp_module.specs.NormalTables.{label_of, degrees_of as table_de
 ghost use Rattle.bmp_module.specs.QuotientModules.{free_of, label_of as quotient_label_of};
 ghost use Rattle.bmp_sheaf.specs.Units.{unit_element};
 ghost use Rattle.bmp_sheaf.specs.EdgeModules.{AreImagesOf, lower_map_on, upper_map_on};
-ghost use Rattle.bmp_sheaf.specs.EdgeMaps.{LiftsFit, SameMatrix, lift_by};
+ghost use Rattle.bmp_sheaf.specs.EdgeMaps.{LiftsFit, lift_by};
 
 use bmp_field::Field;
 use bmp_linear::{Entry, RowSpace, SparseRows, Vector};

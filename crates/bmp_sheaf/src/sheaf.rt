@@ -1,6 +1,6 @@
 //! Sheaves on a moment graph, in memory.
 ghost use Rattle.std.specs.Prelude.{◌≡◌, ℕ, ◌+◌, ◌-◌, ◌*◌, ◌^◌, ◌<◌, ◌≤◌, All, List, [], ◌∷◌, ◌++◌, length, slice_index, slice_index_or, IfOk, OnOk, OnErr, IfErr};
-ghost use Rattle.bmp_math.specs.Matrices.{Matrix, NumbersBelow};
+ghost use Rattle.bmp_math.specs.Matrices.{Matrix, NumbersBelow, SameMatrix};
 ghost use Rattle.bmp_linear.specs.SparseVectors.{FitsBelow, ValuesBelow, number_at};
 ghost use Rattle.bmp_linear.specs.RowTables.{EntryTable, matrix_of_entries};
 ghost use Rattle.bmp_module.specs.FreeModules.{rank_of, degrees_of};
@@ -10,9 +10,8 @@ ghost use Rattle.bmp_sheaf.specs.Coordinates.{stalk_count, element_of, edge_modu
 ghost use Rattle.bmp_sheaf.specs.Numbers.{lower_number, upper_number, lower_matrix, upper_matrix};
 ghost use Rattle.bmp_sheaf.specs.Written.{up_count, lift_place, IsUpPlace};
 ghost use Rattle.bmp_sheaf.specs.LabelTables.{IsTableOf};
-ghost use Rattle.bmp_sheaf.specs.EdgeMaps.{SameMatrix};
 ghost use Rattle.bmp_sheaf.specs.ModuleMaps.{stalk_module, edge_module, from_lower, from_upper};
-ghost use Rattle.bmp_sheaf.specs.States.{Stalk, SheafState, IsState, stalk_of, IsThere, next_vertex, sheaf_of};
+ghost use Rattle.bmp_sheaf.specs.States.{Stalk, SheafState, IsState, stalk_of, IsThere, next_vertex, with_stalk, sheaf_of};
 ghost use Rattle.bmp_sheaf.specs.StalkFaults.{IsStalk, BreaksFirst};
 ghost use Rattle.bmp_sheaf.specs.StalkTables.{IsEdgeModule, IsStalkTable, map_place};
 
@@ -93,6 +92,14 @@ impl<F: Field> Sheaf<F> {
         let part = self.new_part(x, degrees, lifts)?;
         self.stalks.push(part)?;
         Ok(())
+    }
+
+    /// Takes away the stalk that was added last.
+    pub fn pop_vertex(&mut self)
+        requires { 0 < length self.old.stalks }
+        ensures { (t : Stalk) × (self.old ≡ with_stalk self.new t) }
+    {
+        let _ = self.stalks.pop();
     }
 
     /// How many stalks are there.

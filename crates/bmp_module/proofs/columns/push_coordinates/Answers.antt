@@ -1,4 +1,4 @@
-use Rattle.std.proofs.Common.{◌≡◌, ◌<◌, ◌≤◌, ◌^◌, ◌∙◌, refl, sym, ap, subst, rules, arith}
+use Rattle.std.proofs.Common.{◌≡◌, ◌∙◌, refl, ap, arith}
 use Rattle.bmp_module.proofs.ColumnLemmas.{columns_none, number_pushed, one_column, columns_as}
 use Rattle.bmp_module.proofs.columns.push_coordinates.Goals as goal
 

@@ -1,6 +1,7 @@
-use Rattle.std.proofs.Common.{◌≡◌, ◌-◌, ◌%◌, ◌<◌, ◌≤◌, ◌^◌, ◌∙◌, refl, sym, ap, subst, rules, arith}
+use Rattle.std.proofs.Common.{◌≡◌, ◌-◌, ◌≤◌, ◌∙◌, ap, arith}
 use Rattle.std.specs.List.{sum}
 use Rattle.bmp_poly.specs.Exponents.{count, exponents}
+use Rattle.bmp_graded.proofs.GradedLemmas.{wider_monomial}
 use Rattle.bmp_module.proofs.ColumnLemmas.{columns_none, multiple_pushed, multiples_whole, multiples_absent}
 use Rattle.bmp_module.proofs.columns.push_multiples.Goals as goal
 
@@ -10,6 +11,9 @@ returns-then-a-d g c =
 
 pub loop-t-init : goal.loop-t-init
 loop-t-init g c = columns_none ((g.N.GradedModule.graded c.args.over.now).dim c.args.d) _ c.args.columns.now.items
+
+pub act-requires-clause-monomial : goal.act-requires-clause-monomial
+act-requires-clause-monomial g c = wider_monomial c.args.rank (g.N.GradedModule.rank c.args.over.now) _ c.monomial_at-m.result c.requires.rank (rw c.monomial_at-m.ensures.monomial.size c.monomial_at-m.ensures.monomial)
 
 pub loop-t-preserved : goal.loop-t-preserved
 loop-t-preserved g c =

@@ -3,6 +3,7 @@ use Rattle.std.proofs.lemmas.List.Elements.{All-get_or}
 use Rattle.bmp_poly.specs.Exponents.{count, exponents}
 use Rattle.bmp_poly.specs.Coefficients.{coefficient}
 use Rattle.bmp_poly.proofs.CoefficientLemmas.{coefficient_read}
+use Rattle.bmp_graded.proofs.GradedLemmas.{wider_monomial}
 use Rattle.bmp_module.proofs.Extending.{none_added, start_sum, block_count, multiples_none, multiple_more, multiples_end}
 use Rattle.bmp_module.proofs.linear.add_multiples.Goals as goal
 
@@ -43,6 +44,9 @@ add_multiple-requires-clause-value g c =
     let inside : c.loop-i.i < length c.args.block.now = omega (arith, c.loop-i-test.true, all, size) in
     let read = All-get_or (g.F.Field.is_value c.args.f.now) c.args.block.now c.loop-i.i c.index-block-i.result inside c.requires.values in
     rw (← c.index-block-i.is) at read
+
+pub add_multiple-requires-clause-monomial : goal.add_multiple-requires-clause-monomial
+add_multiple-requires-clause-monomial g c = wider_monomial c.args.rank (g.N.GradedModule.rank c.args.into.now) _ c.monomial_at-m.result c.requires.rank (rw c.monomial_at-m.ensures.monomial.size c.monomial_at-m.ensures.monomial)
 
 pub loop-i-preserved : goal.loop-i-preserved
 loop-i-preserved g c =

@@ -1,5 +1,5 @@
 use Rattle.std.proofs.Common.{arith, ◌≡◌, ◌+◌, ◌-◌, ◌∙◌, ◌<◌, ap, sum, subst}
-use Rattle.bmp_poly.specs.Exponents.{IsMonomial, count, place, exponents}
+use Rattle.bmp_poly.specs.Exponents.{count, place, exponents}
 use Rattle.bmp_poly.specs.Shifts.{joined}
 use Rattle.bmp_graded.specs.Quotients.{insert}
 use Rattle.bmp_graded.proofs.PureLemmas.{without_monomial}

@@ -1,4 +1,4 @@
-use Rattle.std.proofs.Common.{arith, ◌≡◌, ◌<◌, length, refl}
+use Rattle.std.proofs.Common.{arith, ◌<◌, length}
 use Rattle.bmp_module.proofs.TabledBlocks.{number_none, number_passed, number_more}
 use Rattle.bmp_module.proofs.tabled.number_at.Goals as goal
 use Rattle.bmp_module.proofs.tabled.number_at.Goals.{then-num-ne0, else-num-ne0}

@@ -1,4 +1,4 @@
-use Rattle.std.proofs.Common.{arith, ◌≡◌, ◌+◌, ◌-◌, ◌∙◌, ap, get_or, length, sum, suc, sym}
+use Rattle.std.proofs.Common.{arith, ◌≡◌, ◌+◌, ◌-◌, ◌∙◌, ap, get_or, length, suc, sym}
 use Rattle.bmp_poly.specs.Exponents.{count}
 use Rattle.bmp_poly.specs.Coefficients.{coefficient}
 use Rattle.bmp_graded.specs.NormalForms.{normal_by}

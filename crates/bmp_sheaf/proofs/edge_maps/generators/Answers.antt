@@ -2,7 +2,7 @@ use Rattle.std.proofs.Common.{◌≡◌, ◌-◌, ◌%◌, ◌≤◌, ◌∙◌,
 use Rattle.bmp_poly.specs.Coefficients.{coefficient}
 use Rattle.bmp_graded.specs.NormalForms.{HasInverses}
 use Rattle.bmp_graded.specs.Maps.{projection}
-use Rattle.bmp_module.specs.FreeModules.{IsGenerator}
+use Rattle.bmp_graded.specs.Components.{IsGenerator}
 use Rattle.bmp_sheaf.proofs.EdgeImages.{images_more, images_all, generator_number}
 use Rattle.bmp_sheaf.proofs.edge_maps.generators.Goals as goal
 

@@ -4,7 +4,7 @@ use Rattle.bmp_sheaf.specs.Coordinates.{leading}
 use Rattle.std.proofs.Common.{◌-◌}
 use Rattle.bmp_sheaf.proofs.ModuleLemmas.{free_count, quotient_count, component_is, same_modulo_is_congruent, edge_number_is, lower_is_map, upper_is_map}
 use Rattle.bmp_sheaf.specs.Numbers.{lower_matrix, upper_matrix}
-use Rattle.bmp_sheaf.proofs.SameMatrices.{same_itself}
+use Rattle.bmp_math.proofs.SameMatrices.{same_matrix-reflexive}
 use Rattle.bmp_sheaf.proofs.EdgeMatrices.{lower_of_map, upper_of_map}
 use Rattle.bmp_sheaf.proofs.laws.stalks_and_edges_are_graded_modules.Goals as goal
 
@@ -28,6 +28,6 @@ returns-clause-maps c = λ G F e over inside. record {
 
 pub returns-clause-matrices : goal.returns-clause-matrices
 returns-clause-matrices c = λ G F d e over inside. record {
-  lower_one = lower_of_map G over F d e inside (lower_matrix G F d e) (same_itself (lower_matrix G F d e));
-  upper_one = upper_of_map G over F d e inside (upper_matrix G F d e) (same_itself (upper_matrix G F d e));
+  lower_one = lower_of_map G over F d e inside (lower_matrix G F d e) (same_matrix-reflexive (lower_matrix G F d e));
+  upper_one = upper_of_map G over F d e inside (upper_matrix G F d e) (same_matrix-reflexive (upper_matrix G F d e));
 }

@@ -1,4 +1,4 @@
-use Rattle.std.proofs.Common.{◌<◌, ◌∙◌, [], get_or, arith}
+use Rattle.std.proofs.Common.{◌∙◌, [], get_or, arith}
 use Rattle.bmp_module.proofs.Appending.{appended_none, appended_more}
 use Rattle.bmp_module.proofs.free.Free.element.Goals as goal
 

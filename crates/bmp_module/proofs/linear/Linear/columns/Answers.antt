@@ -1,4 +1,4 @@
-use Rattle.std.proofs.Common.{◌≡◌, ◌<◌, ◌≤◌, ◌∙◌, get_or, length, refl, sym, ap, subst, rules, arith}
+use Rattle.std.proofs.Common.{◌<◌, ◌≤◌, get_or, length, sym, ap, rules, arith}
 use Rattle.bmp_module.specs.Images.{image_coordinates}
 use Rattle.bmp_module.proofs.ColumnLemmas.{extension_start, extension_more, extension_whole}
 use Rattle.bmp_module.proofs.Extending.{image_read}

@@ -4,6 +4,7 @@ use Rattle.std.proofs.lemmas.Grind.{get_or_default_zero}
 use Rattle.bmp_poly.specs.Coefficients.{coefficient}
 use Rattle.bmp_graded.specs.Modules.{moved, polynomials}
 use Rattle.bmp_graded.proofs.CoordinateLemmas.{coefficient_range}
+use Rattle.bmp_graded.proofs.GradedLemmas.{narrower_module}
 use Rattle.bmp_module.specs.Images.{image_coordinates}
 use Rattle.bmp_module.proofs.Extending.{added_in, image_read, extended_start, extended_inside, extended_more, extended_end}
 use Rattle.bmp_module.proofs.linear.LinearModuleMapFree.apply.Goals as goal
@@ -59,7 +60,7 @@ loop-h-preserved g c =
       element = c.in_ok-add_multiples.ensures.element;
       degree = c.in_ok-add_multiples.ensures.degree ∙ c.loop-h.invariant.degree;
       extended = extended_more (g.F.Field.size c.args.f.now) c.args.self.now.from.now.rank (g.N.GradedModule.graded c.args.self.now.into.now) c.args.self.now.from.now.degrees.items (image_coordinates (g.N.GradedModule.coordinate c.args.self.now.into.now c.args.f.now) c.args.self.now.images.now) c.args.e.now.degree (coefficient (g.F.Field.num c.args.f.now) c.args.e.now.numbers.items) (g.N.GradedModule.coordinate c.args.self.now.into.now c.args.f.now c.loop-h.total) (g.N.GradedModule.coordinate c.args.self.now.into.now c.args.f.now c.add_multiples.new.total) c.loop-h.h c.loop-h.start (c.loop-h.start + c.block_length.result) c.index-generator.result.now (g.N.GradedModule.coordinate c.args.self.now.into.now c.args.f.now (get_or c.args.self.now.images.now c.loop-h.h c.index-self-h.result)) (coefficient (g.F.Field.num c.args.f.now) (slice_range c.deref.result.now c.loop-h.start (c.loop-h.start + c.block_length.result)))
-          c.args.self.now.from.now.wide (rw c.requires.map.1 at (g.met.N.GradedModule.laws c.args.self.now.into.now c.args.f.now c.requires.map.0)) here degree
+          c.args.self.now.from.now.wide (narrower_module (g.F.Field.size c.args.f.now) c.args.self.now.from.now.rank (g.N.GradedModule.rank c.args.self.now.into.now) (g.N.GradedModule.graded c.args.self.now.into.now) c.requires.map.1 (g.met.N.GradedModule.laws c.args.self.now.into.now c.args.f.now c.requires.map.0)) here degree
           (sym (image_read (g.N.GradedModule.coordinate c.args.self.now.into.now c.args.f.now) c.args.self.now.images.now c.loop-h.h (get_or c.args.self.now.images.now c.loop-h.h c.index-self-h.result) image (ap (λ z. get_or c.args.self.now.images.now c.loop-h.h z) c.index-self-h.is)))
           (ap (λ z. c.loop-h.start + z) c.block_length.ensures)
           (λ i inner. coefficient_range (g.F.Field.num c.args.f.now) c.deref.result.now c.loop-h.start (c.loop-h.start + c.block_length.result) i (omega (arith, inner, c.block_length.ensures)) ∙ ap (λ z. coefficient (g.F.Field.num c.args.f.now) z (c.loop-h.start + i)) c.deref.ensures.value)
