@@ -29,7 +29,8 @@ use Rattle.bmp_cover.proofs.FaultLemmas.{AgreeBelow}
 module _ (G : Graph) (over : IsOverField G) (F : SheafData) (d e : ℕ) (is_edge : e < edge_count G) where
   -- what a row of the upper map says of numbers in memory
   pub edge_value :
-      (i : ℕ) (es : List Entry) (second : List ℕ) (value : ℕ) → i < edge_module_count G F d e → IsTableRow G.prime (upper_matrix G F d e) i es →
+      (i : ℕ) (es : List Entry) (second : List ℕ) (value : ℕ) → i < edge_module_count G F d e →
+      IsTableRow G.prime (upper_matrix G F d e) i es →
       value ≡ sum_by (λ n. n.value * get_or second n.place 0) es % G.prime →
       value ≡ on_edge G F d e (element_of G.rank (F.degrees (upper G e)) d (slice_index second)) i
   edge_value i es second value inside row is =
@@ -47,13 +48,16 @@ module _ (G : Graph) (over : IsOverField G) (F : SheafData) (d e : ℕ) (is_edge
   -- the element with the combination of the tuples' coordinates at the upper end is the value of the combined tuple
   pub edge_combined :
       (list : TupleList) (c : ℕ → ℕ) (second : List ℕ) (i : ℕ) → i < edge_module_count G F d e →
-      ((k : ℕ) → k < stalk_count G.rank (F.degrees (upper G e)) d → slice_index second k ≡ combination c (λ j. list.value j (upper G e)) list.count k % G.prime) →
+      ((k : ℕ) → k < stalk_count G.rank (F.degrees (upper G e)) d →
+      slice_index second k ≡ combination c (λ j. list.value j (upper G e)) list.count k % G.prime) →
       on_edge G F d e (element_of G.rank (F.degrees (upper G e)) d (slice_index second)) i
       ≡ on_edge G F d e (boundary_of_tuple G (combined_tuple c (tuples_in G F d list) list.count) e) i
   edge_combined list c second i inside combined =
       let values : ℕ → ℕ = combination c (λ j. list.value j (upper G e)) list.count in
-      on_edge_respects G over F d e is_edge (element_of G.rank (F.degrees (upper G e)) d (slice_index second)) (element_of G.rank (F.degrees (upper G e)) d values)
-      (element_respects G.prime G.rank (F.degrees (upper G e)) d (slice_index second) values (label_leads G over e is_edge).rank
+      on_edge_respects G over F d e is_edge (element_of G.rank (F.degrees (upper G e)) d (slice_index second))
+      (element_of G.rank (F.degrees (upper G e)) d values)
+      (element_respects G.prime G.rank (F.degrees (upper G e)) d (slice_index second) values
+      (label_leads G over e is_edge).rank
       (λ k l. ap (λ z. z % G.prime) (combined k l) ∙ mod-mod (values k) G.prime))
       i inside
 
@@ -68,7 +72,8 @@ module _ (G : Graph) (over : IsOverField G) (F : SheafData) (x d : ℕ) where
   -- the combination with the factor 1 at one tuple has its boundary
   pub single_boundary :
       (t : ℕ → Tuple) (n j : ℕ) → j < n → AgreeBelow (boundary_count G F x d)
-      (boundary_number G F x d (boundary_of_tuple G (combined_tuple (number_at (record { place = j; value = 1 } ∷ [])) t n)))
+      (boundary_number G F x d
+      (boundary_of_tuple G (combined_tuple (number_at (record { place = j; value = 1 } ∷ [])) t n)))
       (boundary_number G F x d (boundary_of_tuple G (t j)))
   single_boundary t n j within =
       let c : ℕ → ℕ = number_at (record { place = j; value = 1 } ∷ []) in
@@ -88,13 +93,16 @@ module _ (G : Graph) (over : IsOverField G) (F : SheafData) (x d : ℕ) where
           ∙ one_times (number_at (record { place = j; value = 1 } ∷ []) j) (f j) (own_entry j)
 
   -- one edge more in a comparison of boundaries
-  module _ (left : ℕ → ℕ) (t : Tuple) (e start n : ℕ) (is_edge : e < edge_count G) (starts : lower G e ≡ x) (is_start : start ≡ boundary_start G F x d e) (is_n : n ≡ edge_module_count G F d e) where
+  module _ (left : ℕ → ℕ) (t : Tuple) (e start n : ℕ) (is_edge : e < edge_count G) (starts : lower G e ≡ x)
+      (is_start : start ≡ boundary_start G F x d e) (is_n : n ≡ edge_module_count G F d e) where
     abbrev right : ℕ → ℕ
     right = boundary_number G F x d (boundary_of_tuple G t)
 
-    right_at : (i : ℕ) → i < edge_module_count G F d e → boundary_number G F x d (boundary_of_tuple G t) (start + i) ≡ on_edge G F d e (boundary_of_tuple G t e) i
+    right_at : (i : ℕ) → i < edge_module_count G F d e → boundary_number G F x d (boundary_of_tuple G t) (start + i)
+        ≡ on_edge G F d e (boundary_of_tuple G t e) i
     right_at i inside =
-        ap (λ s. boundary_number G F x d (boundary_of_tuple G t) (s + i)) is_start ∙ boundary_number_at G F x d (boundary_of_tuple G t) e i is_edge starts inside
+        ap (λ s. boundary_number G F x d (boundary_of_tuple G t) (s + i)) is_start
+        ∙ boundary_number_at G F x d (boundary_of_tuple G t) e i is_edge starts inside
 
     pub edge_agrees :
         AgreeBelow start left (boundary_number G F x d (boundary_of_tuple G t)) →
@@ -109,9 +117,12 @@ module _ (G : Graph) (over : IsOverField G) (F : SheafData) (x d : ℕ) where
     ]
 
     pub edge_differs :
-        (diff : Difference) → start + n ≤ boundary_count G F x d → AgreeBelow start left (boundary_number G F x d (boundary_of_tuple G t)) →
-        IsFirstDifference (λ i. left (start + i)) (on_edge G F d e (boundary_of_tuple G t e)) (edge_module_count G F d e) diff →
-        IsFirstDifference left (boundary_number G F x d (boundary_of_tuple G t)) (boundary_count G F x d) (record { place = start + diff.place; left = diff.left; right = diff.right })
+        (diff : Difference) → start + n ≤ boundary_count G F x d →
+        AgreeBelow start left (boundary_number G F x d (boundary_of_tuple G t)) →
+        IsFirstDifference (λ i. left (start + i)) (on_edge G F d e (boundary_of_tuple G t e))
+        (edge_module_count G F d e) diff →
+        IsFirstDifference left (boundary_number G F x d (boundary_of_tuple G t)) (boundary_count G F x d)
+        (record { place = start + diff.place; left = diff.left; right = diff.right })
     edge_differs diff within before is = record {
       below = omega (arith, is.below);
       left_is = is.left_is;

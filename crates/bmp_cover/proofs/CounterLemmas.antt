@@ -18,13 +18,15 @@ use Rattle.bmp_cover.specs.Examples.{IsLine, IsTriangle, missing_sheaf, split_sh
 use Rattle.bmp_cover.proofs.ExampleLemmas.{one_monomial, divided_at_one, component_is, one_is_not_zero, always_reached, each_is_section}
 
 -- in degree 0 a label divides a difference only where there is none
-same_at_one : (p r : ℕ) (c : ℕ → ℕ) (a b : Form) → r ≤ 6 → Congruent p 6 r 0 c a b → SameMod p (a (zeros 6)) (b (zeros 6))
+same_at_one : (p r : ℕ) (c : ℕ → ℕ) (a b : Form) → r ≤ 6 → Congruent p 6 r 0 c a b →
+    SameMod p (a (zeros 6)) (b (zeros 6))
 same_at_one p r c a b wide h =
     let t : Form = times_label r c h.quotient in
     let divided : Congruent p 6 r 0 c t (λ m. 0) = record { quotient = h.quotient; sums = λ m mono. refl_mod (t m) } in
     let none : SameMod p (t (zeros 6)) 0 = divided_at_one p r c t wide divided in
     let own : b (zeros 6) + 0 ≡ b (zeros 6) = omega arith in
-    h.sums (zeros 6) (one_monomial r) ∙ same_add p (b (zeros 6)) (b (zeros 6)) (t (zeros 6)) 0 refl none ∙ ap (λ z. z % p) own
+    h.sums (zeros 6) (one_monomial r) ∙ same_add p (b (zeros 6)) (b (zeros 6)) (t (zeros 6)) 0 refl none
+    ∙ ap (λ z. z % p) own
   where
     refl_mod : (x : ℕ) → SameMod p x (0 + x)
     refl_mod x = let same : x ≡ 0 + x = omega arith in ap (λ z. z % p) same
@@ -57,7 +59,8 @@ module _ (G : Graph) (is : IsLine G) where
       ap (λ x. extension G.rank (missing_sheaf.degrees x) (missing_sheaf.lift 0) 0 found.0 0 (zeros 6)) is.lower_end
       ∙ extension_none G.rank 0 (missing_sheaf.lift 0) found.0 0 (zeros 6) in
       let same : SameMod G.prime (lift_of G missing_sheaf 0 0 found.0 0 (zeros 6)) 1 =
-      same_at_one G.prime G.rank (label G 0) (lift_of G missing_sheaf 0 0 found.0 0) (one_above (upper G 0) 0) (omega (arith, is.rank)) (found.1 0 below is.lower_end 0 0 component) in
+      same_at_one G.prime G.rank (label G 0) (lift_of G missing_sheaf 0 0 found.0 0) (one_above (upper G 0) 0)
+      (omega (arith, is.rank)) (found.1 0 below is.lower_end 0 0 component) in
       one_is_not_zero G.prime is.prime (sym same ∙ ap (λ z. z % G.prime) none)
 
 -- ---- two generators on the triangle, one for each edge
@@ -70,19 +73,30 @@ module _ (G : Graph) (is : IsTriangle G) where
   edge_below e below = omega (arith, is.three_edges)
 
   -- the lifts on the three edges
-  first_lift : (d : ℕ) (u : Element) (h : ℕ) (m : List ℕ) → IsMonomial 6 G.rank d m → lift_of G split_sheaf 0 d u h m ≡ u 0 m
+  first_lift : (d : ℕ) (u : Element) (h : ℕ) (m : List ℕ) → IsMonomial 6 G.rank d m →
+      lift_of G split_sheaf 0 d u h m ≡ u 0 m
   first_lift d u h m mono =
       ap (λ x. extension G.rank (split_sheaf.degrees x) (split_sheaf.lift 0) d u h m) is.first_lower
       ∙ extension_two G.rank d (split_sheaf.lift 0) u h m
-      ∙ omega (arith, product-one G.rank d (u 0) (split_sheaf.lift 0 0 h) m is.rank mono (λ n. refl), product-zero G.rank d (u 1) (split_sheaf.lift 0 1 h) m (λ n. refl))
+      ∙ omega (
+        arith,
+        product-one G.rank d (u 0) (split_sheaf.lift 0 0 h) m is.rank mono (λ n. refl),
+        product-zero G.rank d (u 1) (split_sheaf.lift 0 1 h) m (λ n. refl),
+      )
 
-  second_lift : (d : ℕ) (u : Element) (h : ℕ) (m : List ℕ) → IsMonomial 6 G.rank d m → lift_of G split_sheaf 1 d u h m ≡ u 1 m
+  second_lift : (d : ℕ) (u : Element) (h : ℕ) (m : List ℕ) → IsMonomial 6 G.rank d m →
+      lift_of G split_sheaf 1 d u h m ≡ u 1 m
   second_lift d u h m mono =
       ap (λ x. extension G.rank (split_sheaf.degrees x) (split_sheaf.lift 1) d u h m) is.second_lower
       ∙ extension_two G.rank d (split_sheaf.lift 1) u h m
-      ∙ omega (arith, product-zero G.rank d (u 0) (split_sheaf.lift 1 0 h) m (λ n. refl), product-one G.rank d (u 1) (split_sheaf.lift 1 1 h) m is.rank mono (λ n. refl))
+      ∙ omega (
+        arith,
+        product-zero G.rank d (u 0) (split_sheaf.lift 1 0 h) m (λ n. refl),
+        product-one G.rank d (u 1) (split_sheaf.lift 1 1 h) m is.rank mono (λ n. refl),
+      )
 
-  third_lift : (d : ℕ) (u : Element) (h : ℕ) (m : List ℕ) → IsMonomial 6 G.rank d m → lift_of G split_sheaf 2 d u h m ≡ u 0 m
+  third_lift : (d : ℕ) (u : Element) (h : ℕ) (m : List ℕ) → IsMonomial 6 G.rank d m →
+      lift_of G split_sheaf 2 d u h m ≡ u 0 m
   third_lift d u h m mono =
       ap (λ x. extension G.rank (split_sheaf.degrees x) (split_sheaf.lift 2) d u h m) is.third_lower
       ∙ extension_one G.rank d (split_sheaf.lift 2) u h m
@@ -143,10 +157,12 @@ module _ (G : Graph) (is : IsTriangle G) where
       values_of s,
       λ e below from. elim (from_bottom e below from) [
         | inl first ↦
-            subst (λ (k : ℕ). EqualOnEdge G split_sheaf k d (lift_of G split_sheaf k d (values_of s)) (s (upper G k))) (sym first)
+            subst (λ (k : ℕ). EqualOnEdge G split_sheaf k d (lift_of G split_sheaf k d (values_of s)) (s (upper G k)))
+            (sym first)
             (equal_on 0 1 d (values_of s) s is.first_upper first_one (λ m mono. first_lift d (values_of s) 0 m mono))
         | inr second ↦
-            subst (λ (k : ℕ). EqualOnEdge G split_sheaf k d (lift_of G split_sheaf k d (values_of s)) (s (upper G k))) (sym second)
+            subst (λ (k : ℕ). EqualOnEdge G split_sheaf k d (lift_of G split_sheaf k d (values_of s)) (s (upper G k)))
+            (sym second)
             (equal_on 1 2 d (values_of s) s is.second_upper second_one (λ m mono. second_lift d (values_of s) 0 m mono))
       ],
     );
@@ -155,7 +171,9 @@ module _ (G : Graph) (is : IsTriangle G) where
   -- where the lift on an edge is 0, so is the coefficient
   none_at : (e : ℕ) (u : Element) → HasOne e → EqualOnEdge G split_sheaf e 0 (lift_of G split_sheaf e 0 u) zero_element
       → SameMod G.prime (lift_of G split_sheaf e 0 u 0 (zeros 6)) 0
-  none_at e u one none = divided_at_one G.prime G.rank (label G e) (lift_of G split_sheaf e 0 u 0) is.rank (none 0 0 (one_component e 0 one))
+  none_at e u one none =
+      divided_at_one G.prime G.rank (label G e) (lift_of G split_sheaf e 0 u 0) is.rank
+      (none 0 0 (one_component e 0 one))
 
   minimal_at_zero : IsMinimal G split_sheaf 0 0
   minimal_at_zero = record {
@@ -186,8 +204,10 @@ module _ (G : Graph) (is : IsTriangle G) where
   first : Element
   first g m = cond (eqb g 0) 1 0
 
-  same_on : (e : ℕ) (a b : Element) → HasOne e → EqualOnEdge G split_sheaf e 0 a b → SameMod G.prime (a 0 (zeros 6)) (b 0 (zeros 6))
-  same_on e a b one equal = same_at_one G.prime G.rank (label G e) (a 0) (b 0) is.rank (equal 0 0 (one_component e 0 one))
+  same_on : (e : ℕ) (a b : Element) → HasOne e → EqualOnEdge G split_sheaf e 0 a b →
+      SameMod G.prime (a 0 (zeros 6)) (b 0 (zeros 6))
+  same_on e a b one equal =
+      same_at_one G.prime G.rank (label G e) (a 0) (b 0) is.rank (equal 0 0 (one_component e 0 one))
 
   -- the two values above are equal on the third edge, and those of the boundary aren't
   pub split_not_reached : IsReached G split_sheaf 0 0 → ⊥
@@ -197,15 +217,21 @@ module _ (G : Graph) (is : IsTriangle G) where
       let s : Tuple = found.0 in
       let mono : IsMonomial 6 G.rank 0 (zeros 6) = one_monomial G.rank in
       let middle : IsAbove G (lower G 2) 0 =
-      subst (λ (x : ℕ). IsAbove G (lower G 2) x) is.first_lower (edge 0 (edge_below 0 (omega arith)) (is.first_upper ∙ sym is.third_lower)) in
+      subst (λ (x : ℕ). IsAbove G (lower G 2) x) is.first_lower
+      (edge 0 (edge_below 0 (omega arith)) (is.first_upper ∙ sym is.third_lower)) in
       let highest : IsAbove G (upper G 2) 0 =
-      subst (λ (x : ℕ). IsAbove G (upper G 2) x) is.second_lower (edge 1 (edge_below 1 (omega arith)) (is.second_upper ∙ sym is.third_upper)) in
+      subst (λ (x : ℕ). IsAbove G (upper G 2) x) is.second_lower
+      (edge 1 (edge_below 1 (omega arith)) (is.second_upper ∙ sym is.third_upper)) in
       let on_first : SameMod G.prime (lift_of G split_sheaf 0 0 first 0 (zeros 6)) (s (upper G 0) 0 (zeros 6)) =
-      same_on 0 (lift_of G split_sheaf 0 0 first) (s (upper G 0)) first_one (found.2 0 (edge_below 0 (omega arith)) is.first_lower) in
+      same_on 0 (lift_of G split_sheaf 0 0 first) (s (upper G 0)) first_one
+      (found.2 0 (edge_below 0 (omega arith)) is.first_lower) in
       let on_second : SameMod G.prime (lift_of G split_sheaf 1 0 first 0 (zeros 6)) (s (upper G 1) 0 (zeros 6)) =
-      same_on 1 (lift_of G split_sheaf 1 0 first) (s (upper G 1)) second_one (found.2 1 (edge_below 1 (omega arith)) is.second_lower) in
-      let on_third : SameMod G.prime (lift_of G split_sheaf 2 0 (s (lower G 2)) 0 (zeros 6)) (s (upper G 2) 0 (zeros 6)) =
-      same_on 2 (lift_of G split_sheaf 2 0 (s (lower G 2))) (s (upper G 2)) third_one (found.1 2 (edge_below 2 (omega arith)) middle highest) in
+      same_on 1 (lift_of G split_sheaf 1 0 first) (s (upper G 1)) second_one
+      (found.2 1 (edge_below 1 (omega arith)) is.second_lower) in
+      let on_third : SameMod G.prime (lift_of G split_sheaf 2 0 (s (lower G 2)) 0 (zeros 6))
+      (s (upper G 2) 0 (zeros 6)) =
+      same_on 2 (lift_of G split_sheaf 2 0 (s (lower G 2))) (s (upper G 2)) third_one
+      (found.1 2 (edge_below 2 (omega arith)) middle highest) in
       let rest : ℕ → ℕ = λ z. z % G.prime in
       one_is_not_zero G.prime is.prime
       (sym (ap rest (first_lift 0 first 0 (zeros 6) mono)) ∙ on_first

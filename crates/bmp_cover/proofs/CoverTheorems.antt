@@ -16,17 +16,28 @@ use Rattle.bmp_cover.proofs.Soundness.{covers_give_lifting, sources_give_reachin
 use Rattle.bmp_cover.proofs.EvidenceLemmas.{numbers_are_covers, numbers_are_sources, combined_boundary, generator_column, duals_give_minimality}
 use Rattle.bmp_cover.proofs.CoverSides.{cover_left, cover_right, source_left, source_right, dual_left}
 
-module _ (G : Graph) (F : SheafData) (x d : ℕ) (over : IsOverField G) (small : G.rank ≤ 6) (list : TupleList) (e : CoverEvidence) where
-  pub passing_covers : CoverPasses (ComparesCover G F x d list e) → CatchAll G F x d (tuples_in G F d list) list.count → IsLifted G F x d
+module _ (G : Graph) (F : SheafData) (x d : ℕ) (over : IsOverField G) (small : G.rank ≤ 6) (list : TupleList)
+    (e : CoverEvidence) where
+  pub passing_covers : CoverPasses (ComparesCover G F x d list e) → CatchAll G F x d (tuples_in G F d list) list.count →
+      IsLifted G F x d
   passing_covers passes catch =
-      covers_give_lifting G F x d (tuples_in G F d list) list.count (λ j. element_of G.rank (F.degrees x) d (vector_at e.covers j)) (omega (arith, over.two)) catch
-      (numbers_are_covers G F x d over (tuples_in G F d list) list.count (λ j. element_of G.rank (F.degrees x) d (vector_at e.covers j))
+      covers_give_lifting G F x d (tuples_in G F d list) list.count
+      (λ j. element_of G.rank (F.degrees x) d (vector_at e.covers j)) (omega (arith, over.two)) catch
+      (numbers_are_covers G F x d over (tuples_in G F d list) list.count
+      (λ j. element_of G.rank (F.degrees x) d (vector_at e.covers j))
       (λ j within k below.
-      passes (record { kind = Cover; index = j; place = k; left = cover_left G F x d list e j k; right = cover_right G F x d list e j k })
+      passes (record {
+        kind = Cover;
+        index = j;
+        place = k;
+        left = cover_left G F x d list e j k;
+        right = cover_right G F x d list e j k;
+      })
       (record { kind = refl; tuple = within; place = below; left_is = refl; right_is = refl })))
 
   pub passing_sources :
-      CoverPasses (ComparesSource G F x d list e) → AreSections G F x d (tuples_in G F d list) list.count → ((k : ℕ) → k < d → IsReached G F x k) → IsReached G F x d
+      CoverPasses (ComparesSource G F x d list e) → AreSections G F x d (tuples_in G F d list) list.count →
+      ((k : ℕ) → k < d → IsReached G F x k) → IsReached G F x d
   passing_sources passes sections lower =
       sources_give_reaching G F x d (tuples_in G F d list) list.count small sections
       (numbers_are_sources G F x d over (tuples_in G F d list) list.count
@@ -34,9 +45,23 @@ module _ (G : Graph) (F : SheafData) (x d : ℕ) (over : IsOverField G) (small :
         vector_at e.sources (source_place F x d g),
         λ k below.
             generator_column G F x d over g small within is_new k below
-            ∙ passes (record { kind = Source; index = g; place = k; left = source_left G F x d list e g k; right = source_right G F x d list e g k })
-            (record { kind = refl; generator = within; degree = is_new; place = below; left_is = refl; right_is = refl })
-            ∙ combined_boundary G F x d over (vector_at e.sources (source_place F x d g)) (tuples_in G F d list) list.count k below,
+            ∙ passes (record {
+              kind = Source;
+              index = g;
+              place = k;
+              left = source_left G F x d list e g k;
+              right = source_right G F x d list e g k;
+            })
+            (record {
+              kind = refl;
+              generator = within;
+              degree = is_new;
+              place = below;
+              left_is = refl;
+              right_is = refl;
+            })
+            ∙ combined_boundary G F x d over (vector_at e.sources (source_place F x d g)) (tuples_in G F d list)
+            list.count k below,
       )))
       lower
 
@@ -46,6 +71,19 @@ module _ (G : Graph) (F : SheafData) (x d : ℕ) (over : IsOverField G) (small :
       (λ g within is_new. (
         vector_at e.duals (source_place F x d g),
         λ k below.
-            passes (record { kind = Dual; index = g; place = k; left = dual_left G F x d list e g k; right = unit (generator_place G F x d g) k })
-            (record { kind = refl; generator = within; degree = is_new; place = below; left_is = refl; right_is = refl }),
+            passes (record {
+              kind = Dual;
+              index = g;
+              place = k;
+              left = dual_left G F x d list e g k;
+              right = unit (generator_place G F x d g) k;
+            })
+            (record {
+              kind = refl;
+              generator = within;
+              degree = is_new;
+              place = below;
+              left_is = refl;
+              right_is = refl;
+            }),
       ))

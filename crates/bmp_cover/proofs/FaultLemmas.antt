@@ -17,7 +17,8 @@ on_err (Err e) P Q f h = f e h
 abbrev pub AgreeBelow : ℕ → (ℕ → ℕ) → (ℕ → ℕ) → Type 0
 AgreeBelow n left right = (k : ℕ) → k < n → left k ≡ right k
 
-pub difference_moved : (left right first second : ℕ → ℕ) (n : ℕ) (d : Difference) → AgreeBelow n left first → AgreeBelow n right second → IsFirstDifference left right n d → IsFirstDifference first second n d
+pub difference_moved : (left right first second : ℕ → ℕ) (n : ℕ) (d : Difference) → AgreeBelow n left first →
+    AgreeBelow n right second → IsFirstDifference left right n d → IsFirstDifference first second n d
 difference_moved left right first second n d lefts rights is = record {
   below = is.below;
   left_is = is.left_is ∙ lefts d.place is.below;
@@ -35,11 +36,13 @@ PassBefore n Compares = (r : CoverFault) → Compares r → r.index < n → r.le
 pub pass_none : (Compares : CoverFault → Type 0) → PassBefore 0 Compares
 pass_none Compares r compared within = absurd (omega arith)
 
-pub pass_all : (Compares : CoverFault → Type 0) (n : ℕ) → ((r : CoverFault) → Compares r → r.index < n) → PassBefore n Compares → CoverPasses Compares
+pub pass_all : (Compares : CoverFault → Type 0) (n : ℕ) → ((r : CoverFault) → Compares r → r.index < n) →
+    PassBefore n Compares → CoverPasses Compares
 pass_all Compares n within before r compared = before r compared (within r compared)
 
 -- an index without comparisons
-pub index_skipped : (Compares : CoverFault → Type 0) (index : ℕ) → ((r : CoverFault) → Compares r → r.index ≡ index → ⊥) → PassBefore index Compares → PassBefore (index + 1) Compares
+pub index_skipped : (Compares : CoverFault → Type 0) (index : ℕ) →
+    ((r : CoverFault) → Compares r → r.index ≡ index → ⊥) → PassBefore index Compares → PassBefore (index + 1) Compares
 index_skipped Compares index none before r compared within = elim (cases_eq r.index index) [
   | inl here ↦ absurd (none r compared here)
   | inr other ↦ before r compared (omega arith)
@@ -48,22 +51,27 @@ index_skipped Compares index none before r compared within = elim (cases_eq r.in
 -- the comparisons of one index, all of one kind, have these two sides at n places
 pub record AreSides (Compares : CoverFault → Type 0) (kind : Kind) (index n : ℕ) (left right : ℕ → ℕ) : Type 0 where
   pub kinds : (r : CoverFault) → Compares r → r.kind ≡ kind
-  pub sides : (r : CoverFault) → Compares r → r.index ≡ index → (r.place < n) × (r.left ≡ left r.place) × (r.right ≡ right r.place)
-  pub compared : (k : ℕ) → k < n → Compares (record { kind = kind; index = index; place = k; left = left k; right = right k })
+  pub sides : (r : CoverFault) → Compares r → r.index ≡ index → (r.place < n) × (r.left ≡ left r.place) ×
+      (r.right ≡ right r.place)
+  pub compared : (k : ℕ) → k < n →
+      Compares (record { kind = kind; index = index; place = k; left = left k; right = right k })
 
-module _ (Compares : CoverFault → Type 0) (kind : Kind) (index n : ℕ) (left right : ℕ → ℕ) (are : AreSides Compares kind index n left right) (before : PassBefore index Compares) where
+module _ (Compares : CoverFault → Type 0) (kind : Kind) (index n : ℕ) (left right : ℕ → ℕ)
+    (are : AreSides Compares kind index n left right) (before : PassBefore index Compares) where
   pub index_passes : AgreeBelow n left right → PassBefore (index + 1) Compares
   index_passes same r compared within = elim (cases_eq r.index index) [
     | inl here ↦ let s = are.sides r compared here in s.1 ∙ same r.place s.0 ∙ sym s.2
     | inr other ↦ before r compared (omega arith)
   ]
 
-  first_failure : (k : ℕ) → k < n → left k ≢ right k → ((j : ℕ) → j < k → left j ≡ right j) → IsFirstCoverFailure Compares (record { kind = kind; index = index; place = k; left = left k; right = right k })
+  first_failure : (k : ℕ) → k < n → left k ≢ right k → ((j : ℕ) → j < k → left j ≡ right j) →
+      IsFirstCoverFailure Compares (record { kind = kind; index = index; place = k; left = left k; right = right k })
   first_failure k below differs earlier = record {
     compared = are.compared k below;
     differs = differs;
     earlier = λ r compared is_before. elim is_before [
-      | inl lower_kind ↦ let same : kind_number r.kind ≡ kind_number kind = ap kind_number (are.kinds r compared) in absurd (omega arith)
+      | inl lower_kind ↦ let same : kind_number r.kind ≡ kind_number kind = ap kind_number (are.kinds r compared) in
+          absurd (omega arith)
       | inr same_kind ↦
           elim same_kind.1 [
             | inl lower ↦ before r compared lower
@@ -72,9 +80,13 @@ module _ (Compares : CoverFault → Type 0) (kind : Kind) (index n : ℕ) (left 
     ];
   }
 
-  pub index_fails : (d : Difference) → IsFirstDifference left right n d → IsFirstCoverFailure Compares (record { kind = kind; index = index; place = d.place; left = d.left; right = d.right })
+  pub index_fails : (d : Difference) → IsFirstDifference left right n d →
+      IsFirstCoverFailure Compares
+      (record { kind = kind; index = index; place = d.place; left = d.left; right = d.right })
   index_fails d is =
-      let fault : ℕ → ℕ → CoverFault = λ a b. record { kind = kind; index = index; place = d.place; left = a; right = b } in
-      let found : IsFirstCoverFailure Compares (record { kind = kind; index = index; place = d.place; left = left d.place; right = right d.place }) =
+      let fault : ℕ → ℕ → CoverFault =
+      λ a b. record { kind = kind; index = index; place = d.place; left = a; right = b } in
+      let found : IsFirstCoverFailure Compares
+      (record { kind = kind; index = index; place = d.place; left = left d.place; right = right d.place }) =
       first_failure d.place is.below (λ same. is.differs (is.left_is ∙ same ∙ sym is.right_is)) is.earlier in
       rw (is.left_is, is.right_is) found

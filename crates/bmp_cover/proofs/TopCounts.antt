@@ -1,4 +1,5 @@
--- At the top the one generator, of degree 0, is a basis modulo multiples by monomials of positive degree; and all counts together.
+-- At the top the one generator, of degree 0, is a basis modulo multiples by monomials of positive degree; and all
+-- counts together.
 use Rattle.std.proofs.Common.{◌≡◌, ℕ, zero, suc, ◌+◌, ◌*◌, ◌%◌, ◌<◌, ◌≤◌, cond, eqb, ne_eqb, List, [], ◌∷◌, length, refl, sym, ap, ◌∙◌, arith}
 use Rattle.std.specs.Prelude.{slice_index}
 use Rattle.std.proofs.lemmas.Bool.{cond-false}
@@ -27,11 +28,13 @@ module _ (G : Graph) (F : SheafData) (top : ℕ) (wide : G.rank ≤ 6) (one : F.
       ∙ sum_below-suc (λ g. cond (eqb (slice_index (0 ∷ []) g) d) (c g) 0) 0
       ∙ first
     where
-      first : sum_below (λ g. cond (eqb (slice_index (0 ∷ []) g) d) (c g) 0) 0 + cond (eqb 0 d) (c 0) 0 ≡ cond (eqb 0 d) (c 0) 0
+      first : sum_below (λ g. cond (eqb (slice_index (0 ∷ []) g) d) (c g) 0) 0 + cond (eqb 0 d) (c 0) 0
+          ≡ cond (eqb 0 d) (c 0) 0
       first = omega (arith, sum_below-zero (λ g. cond (eqb (slice_index (0 ∷ []) g) d) (c g) 0))
 
   polynomial_above : (k : ℕ) (c : ℕ → ℕ) (m : List ℕ) → generator_polynomial G F top (suc k) c m ≡ 0
-  polynomial_above k c m = polynomial_is (suc k) c m ∙ cond-false {A = ℕ} (eqb 0 (suc k)) (c 0) 0 (ne_eqb 0 (suc k) (omega arith))
+  polynomial_above k c m =
+      polynomial_is (suc k) c m ∙ cond-false {A = ℕ} (eqb 0 (suc k)) (c 0) 0 (ne_eqb 0 (suc k) (omega arith))
 
   only_generator : (d g : ℕ) → g < length (F.degrees top) → slice_index (F.degrees top) g ≡ d → (g ≡ 0) × (d ≡ 0)
   only_generator d g below is_new =
@@ -53,7 +56,8 @@ module _ (G : Graph) (F : SheafData) (top : ℕ) (wide : G.rank ≤ 6) (one : F.
     multiple : (i : ℕ) → i < count G.rank (suc k) → LowMultiple G F top (suc k)
     unfolding at
     multiple i below =
-        let stands : StandsAt 6 G.rank (suc k) i (exponents 6 G.rank (suc k) i) = exponents_stand 6 G.rank (suc k) i wide below in
+        let stands : StandsAt 6 G.rank (suc k) i (exponents 6 G.rank (suc k) i) =
+        exponents_stand 6 G.rank (suc k) i wide below in
         record {
           degree = 0;
           size = suc k;
@@ -68,28 +72,33 @@ module _ (G : Graph) (F : SheafData) (top : ℕ) (wide : G.rank ≤ 6) (one : F.
     multiples zero within = []
     multiples (suc n) within = multiple n (omega arith) ∷ multiples n (omega arith)
 
-    multiples_sum : (n : ℕ) (within : n ≤ count G.rank (suc k)) (m : List ℕ) → low_polynomial G F top (suc k) (multiples n within) m ≡ sum_below (λ i. f (at i) * shift (at i) (λ e. 1) m) n
+    multiples_sum : (n : ℕ) (within : n ≤ count G.rank (suc k)) (m : List ℕ) →
+        low_polynomial G F top (suc k) (multiples n within) m ≡ sum_below (λ i. f (at i) * shift (at i) (λ e. 1) m) n
     unfolding low_polynomial multiples multiple sum_below
     multiples_sum zero within m = refl
-    multiples_sum (suc n) within m = omega (arith, shift-times (f (at n)) (λ e. 1) (at n) m, multiples_sum n (omega arith) m)
+    multiples_sum (suc n) within m =
+        omega (arith, shift-times (f (at n)) (λ e. 1) (at n) m, multiples_sum n (omega arith) m)
 
     all_multiples : List (LowMultiple G F top (suc k))
     all_multiples = multiples (count G.rank (suc k)) (omega arith)
 
     all_is : (m : List ℕ) → IsMonomial 6 G.rank (suc k) m → low_polynomial G F top (suc k) all_multiples m ≡ f m
     unfolding all_multiples product at
-    all_is m is = multiples_sum (count G.rank (suc k)) (omega arith) m ∙ product-one G.rank (suc k) f (λ e. 1) m wide is (λ n. refl)
+    all_is m is = multiples_sum (count G.rank (suc k)) (omega arith) m
+        ∙ product-one G.rank (suc k) f (λ e. 1) m wide is (λ n. refl)
 
   pub top_count_is_dimension : (d : ℕ) → TopCountIsDimension G F top d
   top_count_is_dimension zero = record {
     spanned = λ f. (
       (λ g. f (zeros 6)),
       [],
-      λ m is. ap (λ z. z % G.prime) (ap f (constant_is_one G.rank m wide is) ∙ omega (arith, polynomial_is 0 (λ g. f (zeros 6)) m, no_multiple [] m)),
+      λ m is. ap (λ z. z % G.prime) (ap f (constant_is_one G.rank m wide is)
+          ∙ omega (arith, polynomial_is 0 (λ g. f (zeros 6)) m, no_multiple [] m)),
     );
     independent = λ c low same g below is_new.
         let own = only_generator 0 g below is_new in
-        ap (λ i. c i % G.prime) own.0 ∙ ap (λ z. z % G.prime) (sym (polynomial_is 0 c (zeros 6))) ∙ same (zeros 6) (one_monomial G.rank) ∙ ap (λ z. z % G.prime) (no_multiple low (zeros 6));
+        ap (λ i. c i % G.prime) own.0 ∙ ap (λ z. z % G.prime) (sym (polynomial_is 0 c (zeros 6)))
+        ∙ same (zeros 6) (one_monomial G.rank) ∙ ap (λ z. z % G.prime) (no_multiple low (zeros 6));
   }
   top_count_is_dimension (suc k) = record {
     spanned = λ f. (
@@ -103,6 +112,7 @@ module _ (G : Graph) (F : SheafData) (top : ℕ) (wide : G.rank ≤ 6) (one : F.
 pub counts_are_dimensions : CountsOfAllAreDimensions
 counts_are_dimensions G F most top some wide is = record {
   at_vertices = λ x d below other up.
-      count_is_dimension G F x d wide some (λ e within. is.lifted x e below other (omega arith)) (λ e less. is.reached x e below other (omega arith)) (is.minimal x d below other up);
+      count_is_dimension G F x d wide some (λ e within. is.lifted x e below other (omega arith))
+      (λ e less. is.reached x e below other (omega arith)) (is.minimal x d below other up);
   at_top = λ d up. top_count_is_dimension G F top wide is.top_stalk d;
 }

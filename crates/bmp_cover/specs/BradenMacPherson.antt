@@ -21,4 +21,5 @@ pub record IsBradenMacPherson (G : Graph) (F : SheafData) (most top : ℕ) : Typ
   pub minimal : (x d : ℕ) → x < vertex_count G → x ≢ top → d ≤ most → IsMinimal G F x d
 
 abbrev pub HasGeneratorsUpTo : Graph → SheafData → ℕ → Type 0
-HasGeneratorsUpTo G F most = (x g : ℕ) → x < vertex_count G → g < length (F.degrees x) → slice_index (F.degrees x) g ≤ most
+HasGeneratorsUpTo G F most = (x g : ℕ) → x < vertex_count G → g < length (F.degrees x) →
+    slice_index (F.degrees x) g ≤ most

@@ -1,8 +1,10 @@
 -- What the check of covers at the vertex x in degree d is given, of a sheaf in memory. In the order to read:
 --   HasStalks s x d            the stalks at x and above it are there, and the coordinates at x are fewer than 2^32
---   HasValues s d list y       the tuples have values at y: elements of the stalk, of degree d, by numbers below the prime
+--   HasValues s d list y       the tuples have values at y: elements of the stalk, of degree d, by numbers below the
+--                              prime
 --   HasTuples s x d list       they have values at the vertices above x
---   CoverFits s x d count e    the evidence has a cover for each of `count` tuples, a source and a form for each generator of degree d, and is in range
+--   CoverFits s x d count e    the evidence has a cover for each of `count` tuples, a source and a form for each
+--                              generator of degree d, and is in range
 use Rattle.std.specs.Prelude.{◌≡◌, ℕ, ◌^◌, ◌<◌, ◌≤◌, IsTrue, All, length}
 use Rattle.bmp_linear.specs.declared.evidence.CoverEvidence.{CoverEvidence}
 use Rattle.bmp_linear.specs.SparseVectors.{FitsBelow, ValuesBelow}

@@ -5,7 +5,8 @@
 --   AreCovers G F x d t n u      the element u j has the boundary of the tuple t j
 --   HaveSources G F x d t n      each generator of degree d has the boundary of a combination of the tuples
 --   generator_place G F x d g    the coordinate of the generator g, of degree d, among those of the stalk
---   HaveDuals G F x d            each generator of degree d has a form that is 1 on its own boundary, and 0 on those of the stalk's other units
+--   HaveDuals G F x d            each generator of degree d has a form that is 1 on its own boundary, and 0 on those of
+--                                the stalk's other units
 -- Tuples and elements are read at the numbers below n.
 use Rattle.std.specs.Prelude.{◌≡◌, ℕ, ◌*◌, ◌%◌, ◌<◌, length, slice_index}
 use Rattle.bmp_math.specs.Sums.{sum_below}
@@ -38,7 +39,8 @@ module _ (G : Graph) (F : SheafData) (x d : ℕ) (t : ℕ → Tuple) (n : ℕ) w
   abbrev pub HaveSources : Type 0
   HaveSources =
       (g : ℕ) → g < length (F.degrees x) → slice_index (F.degrees x) g ≡ d →
-      (a : ℕ → ℕ) × SameBoundary G F x d (boundary_of_element G F d (unit_element g)) (boundary_of_tuple G (combined_tuple a t n))
+      (a : ℕ → ℕ) × SameBoundary G F x d (boundary_of_element G F d (unit_element g))
+      (boundary_of_tuple G (combined_tuple a t n))
 
 module _ (G : Graph) (F : SheafData) (x d : ℕ) where
   -- that of the constant
@@ -51,4 +53,5 @@ module _ (G : Graph) (F : SheafData) (x d : ℕ) where
       (g : ℕ) → g < length (F.degrees x) → slice_index (F.degrees x) g ≡ d →
       (form : ℕ → ℕ)
       × ((j : ℕ) → j < stalk_count G.rank (F.degrees x) d →
-      combination form (boundary_matrix G F x d).entry (boundary_matrix G F x d).rows j % G.prime ≡ unit (generator_place g) j)
+      combination form (boundary_matrix G F x d).entry (boundary_matrix G F x d).rows j
+      % G.prime ≡ unit (generator_place g) j)

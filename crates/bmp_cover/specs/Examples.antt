@@ -5,10 +5,13 @@
 --   surplus_sheaf                the same with a second generator of degree 0 at vertex 0, whose lifts are 0
 --   missing_sheaf                the same without a generator at vertex 0
 --   IsTriangle G                 G has three vertices, of lengths 0, 1 and 2, and an edge up between any two
---   split_sheaf                  on the triangle, two generators of degree 0 at vertex 0, the lift 1 of each on one edge, and 0 on the other
---   PointIsBradenMacPherson, LineIsBradenMacPherson     the unit sheaf is one on the point and on the line, up to each degree
+--   split_sheaf                  on the triangle, two generators of degree 0 at vertex 0, the lift 1 of each on one
+--                                edge, and 0 on the other
+--   PointIsBradenMacPherson, LineIsBradenMacPherson     the unit sheaf is one on the point and on the line, up to each
+--                                                       degree
 --   LineCountsAreDimensions      the counts of the unit sheaf on the line are dimensions
---   SplitIsNotReached, SplitIsLifted, SplitIsMinimal         of the three conditions the split sheaf breaks the first alone
+--   SplitIsNotReached, SplitIsLifted, SplitIsMinimal         of the three conditions the split sheaf breaks the first
+--   alone
 --   MissingIsReached, MissingIsNotLifted, MissingIsMinimal   on the line the missing sheaf breaks the second alone
 --   SurplusIsReached, SurplusIsLifted, SurplusIsNotMinimal   and the surplus sheaf the third alone
 use Rattle.std.specs.Prelude.{◌≡◌, ℕ, ◌≤◌, ◌==◌, if◌then◌else◌, [], ◌∷◌}

@@ -16,9 +16,9 @@ use bmp_linear::{CoverEvidence, Scratch};
 use bmp_sections::Sections;
 use bmp_sheaf::Sheaf;
 
-/// Compares the boundary of each cover with that of its tuple, the boundary of each generator of degree `d` with that of its source's
-/// combination of the tuples, and each dual form on the boundaries of the elements that are 1 at one stalk coordinate with 1 at its
-/// generator's own coordinate and 0 at the others. Takes no memory.
+/// Compares the boundary of each cover with that of its tuple, the boundary of each generator of degree `d` with that
+/// of its source's combination of the tuples, and each dual form on the boundaries of the elements that are 1 at one
+/// stalk coordinate with 1 at its generator's own coordinate and 0 at the others. Takes no memory.
 ///
 /// The fault is the first comparison that fails, by kind, index and place. Where none fails, the three conditions of a
 /// Braden-MacPherson sheaf (Braden-MacPherson 2001) hold at `x` in degree `d`, each under the premises that it needs.
@@ -34,7 +34,8 @@ pub fn check_cover<F: Field, T: Sections>(
     requires tuples { HasTuples sheaf.now x d (T.list tuples.now) }
     requires fits { CoverFits sheaf.now x d (T.list tuples.now).count e.now }
     requires room { IsRoom sheaf.now d (length s.old.first) }
-    ensures ok { OnOk result (CoverPasses (CoverCompares sheaf.now.graph (sheaf_of sheaf.now) x d (T.list tuples.now) e.now)) }
+    ensures ok { OnOk result
+        (CoverPasses (CoverCompares sheaf.now.graph (sheaf_of sheaf.now) x d (T.list tuples.now) e.now)) }
     ensures fault { IfErr result
         (IsFirstCoverFailure (CoverCompares sheaf.now.graph (sheaf_of sheaf.now) x d (T.list tuples.now) e.now)) }
     ensures minimal { OnOk result (IsMinimal sheaf.now.graph (sheaf_of sheaf.now) x d) }

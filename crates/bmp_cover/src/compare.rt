@@ -31,7 +31,13 @@ pub(crate) struct Difference {
 impl Difference {
     /// The fault of this kind and index.
     pub(crate) fn fault(self, kind: Kind, index: u32) -> CoverFault
-        ensures { result ≡ record { kind = kind; index = index; place = self.place; left = self.left; right = self.right } }
+        ensures { result ≡ record {
+          kind = kind;
+          index = index;
+          place = self.place;
+          left = self.left;
+          right = self.right;
+        } }
     {
         CoverFault {
             kind,
@@ -59,7 +65,8 @@ pub(crate) fn compare_boundary<F: Field, T: Sections>(
     requires values { ValuesBelow factors.now sheaf.now.graph.prime }
     requires room { IsRoom sheaf.now d (length s.old.first) }
     ensures compared { let G = sheaf.now.graph in
-        let tuple = combined_tuple (number_at factors.now) (tuples_in G (sheaf_of sheaf.now) d (T.list tuples.now)) (T.list tuples.now).count in
+        let tuple = combined_tuple (number_at factors.now) (tuples_in G (sheaf_of sheaf.now) d (T.list tuples.now))
+        (T.list tuples.now).count in
         let left = slice_index s.old.first in
         let right = boundary_number G (sheaf_of sheaf.now) x d (boundary_of_tuple G tuple) in
         MatchOption result ((k : ℕ) → k < boundary_count G (sheaf_of sheaf.now) x d → left k ≡ right k)
@@ -99,7 +106,8 @@ fn combine_values<F: Field, T: Sections>(
     requires values { ValuesBelow factors.now (F.size f.now) }
     requires room { (T.list tuples.now).size y ≤ length s.old.first }
     ensures combined { (c : ℕ) → c < (T.list tuples.now).size y → slice_index s.new.second c
-        ≡ combination (number_at factors.now) (λ j. (T.list tuples.now).value j y) (T.list tuples.now).count c % F.size f.now }
+        ≡ combination (number_at factors.now) (λ j. (T.list tuples.now).value j y) (T.list tuples.now).count c
+        % F.size f.now }
     ensures first { s.new.first ≡ s.old.first }
 {
     let _ = s.len();
@@ -112,8 +120,8 @@ fn combine_values<F: Field, T: Sections>(
     }
 }
 
-/// Compares the numbers from `start` on in the first row of the scratch with the coordinates on an edge of the element whose
-/// coordinates are in the second row.
+/// Compares the numbers from `start` on in the first row of the scratch with the coordinates on an edge of the element
+/// whose coordinates are in the second row.
 fn compare_edge<F: Field>(
     sheaf: &Sheaf<F>,
     edge: u32,

@@ -12,8 +12,8 @@ use bmp_field::Field;
 use bmp_linear::{CoverEvidence, Scratch, combine_rows};
 use bmp_sheaf::{BoundaryRows, Sheaf};
 
-/// Compares each dual form, on the boundaries of the elements that are 1 at one stalk coordinate, with 1 at its generator's own
-/// coordinate and 0 at the others.
+/// Compares each dual form, on the boundaries of the elements that are 1 at one stalk coordinate, with 1 at its
+/// generator's own coordinate and 0 at the others.
 pub(crate) fn check_duals<F: Field>(
     sheaf: &Sheaf<F>,
     x: u32,

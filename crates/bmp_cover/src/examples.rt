@@ -19,8 +19,8 @@ pub fn line_counts_are_dimensions()
     ensures { LineCountsAreDimensions }
 {}
 
-/// On a triangle with two generators at the bottom, each with a lift on one edge alone, an element has the values 1 and 0 on the two
-/// edges, and no section above has.
+/// On a triangle with two generators at the bottom, each with a lift on one edge alone, an element has the values 1 and
+/// 0 on the two edges, and no section above has.
 pub fn split_generators_are_not_reached()
     ensures { SplitIsNotReached }
 {}

@@ -1,5 +1,5 @@
-//! What a Braden-MacPherson sheaf is and what its generators count, with the smallest examples; and the check of covers, sources
-//! and dual forms at one vertex and degree ([`check_cover`]).
+//! What a Braden-MacPherson sheaf is and what its generators count, with the smallest examples; and the check of
+//! covers, sources and dual forms at one vertex and degree ([`check_cover`]).
 #![tactic(auto)]
 
 mod check;

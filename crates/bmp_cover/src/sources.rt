@@ -26,7 +26,8 @@ pub(crate) fn check_sources<F: Field, T: Sections>(
     requires tuples { HasTuples sheaf.now x d (T.list tuples.now) }
     requires fits { CoverFits sheaf.now x d (T.list tuples.now).count e.now }
     requires room { IsRoom sheaf.now d (length s.old.first) }
-    ensures ok { OnOk result (CoverPasses (ComparesSource sheaf.now.graph (sheaf_of sheaf.now) x d (T.list tuples.now) e.now)) }
+    ensures ok { OnOk result
+        (CoverPasses (ComparesSource sheaf.now.graph (sheaf_of sheaf.now) x d (T.list tuples.now) e.now)) }
     ensures fault { IfErr result
         (IsFirstCoverFailure (ComparesSource sheaf.now.graph (sheaf_of sheaf.now) x d (T.list tuples.now) e.now)) }
     ensures room { length s.new.first ≡ length s.old.first }

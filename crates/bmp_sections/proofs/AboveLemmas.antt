@@ -54,7 +54,8 @@ module _ (G : Graph) where
   above_is_reached is zero x y past above =
       let higher = IsAbove-higher G is y x above in absurd (omega (arith, higher.number, higher.is_vertex))
   above_is_reached is (suc n) x y past above =
-      let found : (e : ℕ) × (e < edge_count G) × (lower G e ≡ x) × ((upper G e ≡ y) ⊎ IsAbove G y (upper G e)) = IsAbove-by_edge G y x above in
+      let found : (e : ℕ) × (e < edge_count G) × (lower G e ≡ x) × ((upper G e ≡ y) ⊎ IsAbove G y (upper G e)) =
+      IsAbove-by_edge G y x above in
       let e = found.0 in
       let rises : lower G e < upper G e = edge_rises G is e found.1 in
       let starts : lower G e ≡ x = found.2 in
@@ -62,7 +63,8 @@ module _ (G : Graph) where
       (and_from (eqb (lower G e) x) (eqb (upper G e) y || reaches G n (upper G e) y) (eq-eqb (lower G e) x starts)
       (elim found.3 [
         | inl ends ↦ or_left (eqb (upper G e) y) (reaches G n (upper G e) y) (eq-eqb (upper G e) y ends)
-        | inr on ↦ or_right (eqb (upper G e) y) (reaches G n (upper G e) y) (above_is_reached is n (upper G e) y (omega arith) on)
+        | inr on ↦ or_right (eqb (upper G e) y) (reaches G n (upper G e) y)
+            (above_is_reached is n (upper G e) y (omega arith) on)
       ]))
 
   pub above_from_test : (x y : ℕ) → is_above G x y ≡ true → IsAbove G y x
@@ -74,16 +76,19 @@ module _ (G : Graph) where
   test_from_above is x y above = above_is_reached is (vertex_count G) x y (omega arith) above
 
   -- the vertices above x are upward closed
-  pub upper_is_above : IsGraph G → (x e : ℕ) → e < edge_count G → is_above G x (lower G e) ≡ true → is_above G x (upper G e) ≡ true
+  pub upper_is_above : IsGraph G → (x e : ℕ) → e < edge_count G → is_above G x (lower G e) ≡ true →
+      is_above G x (upper G e) ≡ true
   upper_is_above is x e below low =
       test_from_above is x (upper G e)
       (IsAbove-trans G (upper G e) (lower G e) x (edge e below refl) (above_from_test x (lower G e) low))
 
 -- what answers whether a vertex is above x is the test
-pub test_is : (G H : Graph) → IsGraph G → H ≡ G → (x y : ℕ) (b : Bool) → ((b ≡ true) ↔ IsAbove H y x) → is_above G x y ≡ b
+pub test_is : (G H : Graph) → IsGraph G → H ≡ G → (x y : ℕ) (b : Bool) → ((b ≡ true) ↔ IsAbove H y x) →
+    is_above G x y ≡ b
 test_is G H is same x y true answers = test_from_above G is x y (subst (λ g. IsAbove g y x) same (answers.0 refl))
 test_is G H is same x y false answers = elim (cases_Bool (is_above G x y)) [
-  | inl here ↦ absurd (true≢false (sym (answers.1 (subst (λ g. IsAbove g y x) (sym same) (above_from_test G x y here)))))
+  | inl here ↦ absurd
+      (true≢false (sym (answers.1 (subst (λ g. IsAbove g y x) (sym same) (above_from_test G x y here)))))
   | inr out ↦ out
 ]
 
@@ -97,7 +102,8 @@ pub record IsUpwardClosed (G : Graph) (U : ℕ → Bool) : Type 0 where
 pub above_is_closed : (G : Graph) → IsGraph G → (x : ℕ) → IsUpwardClosed G (is_above G x)
 above_is_closed G is x = record { upward = upper_is_above G is x }
 
-pub both_ends : (G : Graph) (U : ℕ → Bool) → IsUpwardClosed G U → (e : ℕ) → e < edge_count G → (U (lower G e) && U (upper G e)) ≡ U (lower G e)
+pub both_ends : (G : Graph) (U : ℕ → Bool) → IsUpwardClosed G U → (e : ℕ) → e < edge_count G →
+    (U (lower G e) && U (upper G e)) ≡ U (lower G e)
 both_ends G U closed e below =
     elim (cases_Bool (U (lower G e))) [
       | inl low ↦ and_from (U (lower G e)) (U (upper G e)) low (closed.upward e below low) ∙ sym low
@@ -109,7 +115,9 @@ sum_until : (f : ℕ → ℕ) (m n : ℕ) → m ≤ n → ((i : ℕ) → m ≤ i
 sum_until f m n within none =
     let rest : m + (n - m) ≡ n = omega arith in
     ap (sum_below f) (sym rest) ∙ sum_below_joined f m (n - m)
-    ∙ ap (λ z. sum_below f m + z) (sum_below_same (λ i. f (m + i)) (λ i. 0) (n - m) (λ i l. none (m + i) (omega arith) (omega arith)) ∙ sum_below-zeros (n - m))
+    ∙ ap (λ z. sum_below f m + z)
+    (sum_below_same (λ i. f (m + i)) (λ i. 0) (n - m) (λ i l. none (m + i) (omega arith) (omega arith))
+    ∙ sum_below-zeros (n - m))
     ∙ omega arith
 
 module _ (G : Graph) (F : SheafData) (d : ℕ) where
@@ -118,19 +126,24 @@ module _ (G : Graph) (F : SheafData) (d : ℕ) where
   part y f = cond (eqb (lower G f) y) (edge_module_count G F d f) 0
 
   part_none : (y f : ℕ) → (lower G f ≡ y → ⊥) → part y f ≡ 0
-  part_none y f other = cond-false {A = ℕ} (eqb (lower G f) y) (edge_module_count G F d f) 0 (ne_eqb (lower G f) y other)
+  part_none y f other =
+      cond-false {A = ℕ} (eqb (lower G f) y) (edge_module_count G F d f) 0 (ne_eqb (lower G f) y other)
 
   part_whole : (f : ℕ) → part (lower G f) f ≡ edge_module_count G F d f
-  part_whole f = cond-true {A = ℕ} (eqb (lower G f) (lower G f)) (edge_module_count G F d f) 0 (eq-eqb (lower G f) (lower G f) refl)
+  part_whole f = cond-true {A = ℕ} (eqb (lower G f) (lower G f)) (edge_module_count G F d f) 0
+      (eq-eqb (lower G f) (lower G f) refl)
 
   -- behind an edge from a greater vertex stand no more coordinates at y, and before one from a smaller vertex none
-  boundary_all : IsGraph G → (y e : ℕ) → e < edge_count G → y < lower G e → boundary_start G F y d e ≡ boundary_count G F y d
+  boundary_all : IsGraph G → (y e : ℕ) → e < edge_count G → y < lower G e →
+      boundary_start G F y d e ≡ boundary_count G F y d
   boundary_all is y e below after =
-      sym (sum_until (part y) e (edge_count G) (omega arith) (λ f from to. part_none y f (λ same. let rises = lower_rises G is e f from to in omega arith)))
+      sym (sum_until (part y) e (edge_count G) (omega arith)
+      (λ f from to. part_none y f (λ same. let rises = lower_rises G is e f from to in omega arith)))
 
   boundary_none : IsGraph G → (y e : ℕ) → e < edge_count G → lower G e < y → boundary_start G F y d e ≡ 0
   boundary_none is y e below before =
-      sum_below_same (part y) (λ f. 0) e (λ f to. part_none y f (λ same. let rises = lower_rises G is f e (omega arith) below in omega arith))
+      sum_below_same (part y) (λ f. 0) e
+      (λ f to. part_none y f (λ same. let rises = lower_rises G is f e (omega arith) below in omega arith))
       ∙ sum_below-zeros e
 
   module _ (U : ℕ → Bool) (is : IsGraph G) (closed : IsUpwardClosed G U) where
@@ -154,28 +167,35 @@ module _ (G : Graph) (F : SheafData) (d : ℕ) where
     chosen_sum false f n = sum_below-zeros n
 
     -- the equations of the edges before e, by their lower ends
-    start_by_lower : (e : ℕ) → e ≤ edge_count G → equation_start G F U d e ≡ sum_below (λ y. cond (U y) (boundary_start G F y d e) 0) (vertex_count G)
+    start_by_lower : (e : ℕ) → e ≤ edge_count G →
+        equation_start G F U d e ≡ sum_below (λ y. cond (U y) (boundary_start G F y d e) 0) (vertex_count G)
     start_by_lower e within =
-        sum_below_same equations (λ f. sum_below (λ y. cond (U y) (part y f) 0) (vertex_count G)) e (λ f l. by_lower f (omega arith))
+        sum_below_same equations (λ f. sum_below (λ y. cond (U y) (part y f) 0) (vertex_count G)) e
+        (λ f l. by_lower f (omega arith))
         ∙ sum_below-swap (λ f y. cond (U y) (part y f) 0) e (vertex_count G)
-        ∙ sum_below_same (λ y. sum_below (λ f. cond (U y) (part y f) 0) e) (λ y. cond (U y) (boundary_start G F y d e) 0) (vertex_count G) (λ y l. chosen_sum (U y) (part y) e)
+        ∙ sum_below_same (λ y. sum_below (λ f. cond (U y) (part y f) 0) e)
+        (λ y. cond (U y) (boundary_start G F y d e) 0) (vertex_count G) (λ y l. chosen_sum (U y) (part y) e)
 
     -- as many equations as boundary coordinates at the vertices of the set
-    pub equation_count_is : equation_count G F U d ≡ sum_below (λ y. cond (U y) (boundary_count G F y d) 0) (vertex_count G)
+    pub equation_count_is : equation_count G F U d ≡ sum_below (λ y. cond (U y) (boundary_count G F y d) 0)
+        (vertex_count G)
     equation_count_is = start_by_lower (edge_count G) (omega arith)
 
     pub equation_start_is :
         (e : ℕ) → e < edge_count G → U (lower G e) ≡ true →
-        equation_start G F U d e ≡ sum_below (λ y. cond (U y) (boundary_count G F y d) 0) (lower G e) + boundary_start G F (lower G e) d e
+        equation_start G F U d e ≡ sum_below (λ y. cond (U y) (boundary_count G F y d) 0) (lower G e) + boundary_start G
+        F (lower G e) d e
     equation_start_is e below low =
         let y = lower G e in
         let f : ℕ → ℕ = λ z. cond (U z) (boundary_start G F z d e) 0 in
         let within : lower G e < vertex_count G = (is.ends e below).0 in
         start_by_lower e (omega arith)
-        ∙ sum_until f (suc y) (vertex_count G) (omega arith) (λ z from to. later (U z) (boundary_start G F z d e) (boundary_none is z e below (omega arith)))
+        ∙ sum_until f (suc y) (vertex_count G) (omega arith)
+        (λ z from to. later (U z) (boundary_start G F z d e) (boundary_none is z e below (omega arith)))
         ∙ sum_below-suc f y
         ∙ ap₂ (λ a b. a + b)
-        (sum_below_same f (λ z. cond (U z) (boundary_count G F z d) 0) y (λ z l. ap (λ n. cond (U z) n 0) (boundary_all is z e below l)))
+        (sum_below_same f (λ z. cond (U z) (boundary_count G F z d) 0) y
+        (λ z l. ap (λ n. cond (U z) n 0) (boundary_all is z e below l)))
         (cond-true {A = ℕ} (U y) (boundary_start G F y d e) 0 low)
       where
         later : (b : Bool) (z : ℕ) → z ≡ 0 → cond b z 0 ≡ 0

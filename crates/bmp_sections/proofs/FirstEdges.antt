@@ -15,34 +15,41 @@ ones (suc n) = omega (arith, ones n)
 module _ (G : Graph) where
   pub first_edge-zero : first_edge G 0 ≡ 0
   first_edge-zero =
-      sum_below_same (λ e. cond (ltb (lower G e) 0) 1 0) (λ e. 0) (edge_count G) (λ e l. cond-false {A = ℕ} (ltb (lower G e) 0) 1 0 (le-ltb (lower G e) 0 (omega arith)))
+      sum_below_same (λ e. cond (ltb (lower G e) 0) 1 0) (λ e. 0) (edge_count G)
+      (λ e l. cond-false {A = ℕ} (ltb (lower G e) 0) 1 0 (le-ltb (lower G e) 0 (omega arith)))
       ∙ sum_below-zeros (edge_count G)
 
   pub first_edge-all : IsGraph G → first_edge G (vertex_count G) ≡ edge_count G
   first_edge-all is =
       sum_below_same (λ e. cond (ltb (lower G e) (vertex_count G)) 1 0) (λ e. 1) (edge_count G)
-      (λ e l. cond-true {A = ℕ} (ltb (lower G e) (vertex_count G)) 1 0 (lt-ltb (lower G e) (vertex_count G) (is.ends e l).0))
+      (λ e l. cond-true {A = ℕ} (ltb (lower G e) (vertex_count G)) 1 0
+      (lt-ltb (lower G e) (vertex_count G) (is.ends e l).0))
       ∙ ones (edge_count G)
 
   next_term : (z y : ℕ) → cond (ltb z (y + 1)) 1 0 ≡ cond (ltb z y) 1 0 + cond (eqb z y) 1 0
   next_term z y = elim (cases_lt z y) [
     | inl before ↦
         cond-true {A = ℕ} (ltb z (y + 1)) 1 0 (lt-ltb z (y + 1) (omega arith))
-        ∙ sym (ap₂ (λ a b. a + b) (cond-true {A = ℕ} (ltb z y) 1 0 (lt-ltb z y before)) (cond-false {A = ℕ} (eqb z y) 1 0 (ne_eqb z y (λ same. absurd (omega arith)))))
+        ∙ sym (ap₂ (λ a b. a + b) (cond-true {A = ℕ} (ltb z y) 1 0 (lt-ltb z y before))
+        (cond-false {A = ℕ} (eqb z y) 1 0 (ne_eqb z y (λ same. absurd (omega arith)))))
     | inr from ↦
         elim (cases_eq z y) [
           | inl same ↦
               cond-true {A = ℕ} (ltb z (y + 1)) 1 0 (lt-ltb z (y + 1) (omega arith))
-              ∙ sym (ap₂ (λ a b. a + b) (cond-false {A = ℕ} (ltb z y) 1 0 (le-ltb z y from)) (cond-true {A = ℕ} (eqb z y) 1 0 (eq-eqb z y same)))
+              ∙ sym (ap₂ (λ a b. a + b) (cond-false {A = ℕ} (ltb z y) 1 0 (le-ltb z y from))
+              (cond-true {A = ℕ} (eqb z y) 1 0 (eq-eqb z y same)))
           | inr other ↦
               cond-false {A = ℕ} (ltb z (y + 1)) 1 0 (le-ltb z (y + 1) (omega arith))
-              ∙ sym (ap₂ (λ a b. a + b) (cond-false {A = ℕ} (ltb z y) 1 0 (le-ltb z y from)) (cond-false {A = ℕ} (eqb z y) 1 0 (ne_eqb z y other)))
+              ∙ sym (ap₂ (λ a b. a + b) (cond-false {A = ℕ} (ltb z y) 1 0 (le-ltb z y from))
+              (cond-false {A = ℕ} (eqb z y) 1 0 (ne_eqb z y other)))
         ]
   ]
 
   -- the edges from y end where those of the next vertex begin
   pub first_edge_next : (y from to : ℕ) → IsUpRange G y from to → first_edge G (y + 1) ≡ to
   first_edge_next y from to range =
-      sum_below_same (λ e. cond (ltb (lower G e) (y + 1)) 1 0) (λ e. cond (ltb (lower G e) y) 1 0 + cond (eqb (lower G e) y) 1 0) (edge_count G) (λ e l. next_term (lower G e) y)
+      sum_below_same (λ e. cond (ltb (lower G e) (y + 1)) 1 0)
+      (λ e. cond (ltb (lower G e) y) 1 0 + cond (eqb (lower G e) y) 1 0) (edge_count G)
+      (λ e l. next_term (lower G e) y)
       ∙ sum_below-add (λ e. cond (ltb (lower G e) y) 1 0) (λ e. cond (eqb (lower G e) y) 1 0) (edge_count G)
       ∙ omega (arith, first_edge_is G y from to range, up_count_is G y from to range, range.ordered)

@@ -17,8 +17,10 @@ pub record IsRowVector (p : ℕ) (a : Matrix) (i : ℕ) (v : List Entry) : Type 
 
 -- a row that was added once to zeros
 pub row_vector_made :
-    (p : ℕ) (a : Matrix) (i one : ℕ) (zeros numbers : List ℕ) (v : List Entry) → NumbersBelow p a → i < a.rows → one ≡ 1 →
-    ((j : ℕ) → j < a.cols → get_or zeros j 0 ≡ 0) → IsRowAddedTo p a i one zeros numbers → IsSparse v → FitsBelow v a.cols →
+    (p : ℕ) (a : Matrix) (i one : ℕ) (zeros numbers : List ℕ) (v : List Entry) → NumbersBelow p a → i < a.rows →
+    one ≡ 1 →
+    ((j : ℕ) → j < a.cols → get_or zeros j 0 ≡ 0) → IsRowAddedTo p a i one zeros numbers → IsSparse v →
+    FitsBelow v a.cols →
     ((j : ℕ) → j < a.cols → number_at v j ≡ get_or numbers j 0) → IsRowVector p a i v
 row_vector_made p a i one zeros numbers v below is_row is_one is_zero added sparse fits same =
     let read : (j : ℕ) → j < a.cols → number_at v j ≡ a.entry i j = λ j l.
@@ -30,7 +32,8 @@ row_vector_made p a i one zeros numbers v below is_row is_one is_zero added spar
       fits = fits;
       values = λ k d l.
           let place : (get_or v k d).place < a.cols = fits k d l in
-          subst (λ z. z < p) (sym (read (get_or v k d).place place) ∙ number_at-own v k d sparse.rising l) (below i (get_or v k d).place is_row place);
+          subst (λ z. z < p) (sym (read (get_or v k d).place place) ∙ number_at-own v k d sparse.rising l)
+          (below i (get_or v k d).place is_row place);
       numbers = read;
     }
 
@@ -41,7 +44,8 @@ pub record HasRowsBelow (n : ℕ) (a b : Matrix) : Type 0 where
   pub entries : (i j : ℕ) → i < n → j < a.cols → b.entry i j ≡ a.entry i j
 
 pub rows_more :
-    (n : ℕ) (a b c : Matrix) (v : List Entry) → HasRowsBelow n a b → ((j : ℕ) → j < a.cols → number_at v j ≡ a.entry n j) →
+    (n : ℕ) (a b c : Matrix) (v : List Entry) → HasRowsBelow n a b →
+    ((j : ℕ) → j < a.cols → number_at v j ≡ a.entry n j) →
     IsRowPushed b c (number_at v) → HasRowsBelow (n + 1) a c
 rows_more n a b c v h numbers pushed = record {
   rows = pushed.rows ∙ ap (λ r. r + 1) h.rows;
@@ -49,7 +53,8 @@ rows_more n a b c v h numbers pushed = record {
   entries = λ i j l m.
       let column : j < b.cols = omega (arith, m, h.cols) in
       elim (cases_eq i n) [
-        | inl last ↦ ap (λ r. c.entry r j) (last ∙ sym h.rows) ∙ pushed.pushed j column ∙ numbers j m ∙ ap (λ r. a.entry r j) (sym last)
+        | inl last ↦ ap (λ r. c.entry r j) (last ∙ sym h.rows) ∙ pushed.pushed j column ∙ numbers j m
+            ∙ ap (λ r. a.entry r j) (sym last)
         | inr other ↦
             let before : i < n = omega arith in
             pushed.others i j (omega (arith, before, h.rows)) column ∙ h.entries i j before m

@@ -1,8 +1,10 @@
--- What the check of a tuple answers, of the tuple over the vertices above x, of degree d, with the numbers t at its positions.
+-- What the check of a tuple answers, of the tuple over the vertices above x, of degree d, with the numbers t at its
+-- positions.
 -- In the order to read:
 --   IsCompatible G F x d t            the tuple is a section over the vertices above x
 --   equation_of G F x d t k           the value of its equation k
---   IsFirstEdgeFault G F x d t fault  the equation of this edge and coordinate has another value than 0, and each before it has 0
+--   IsFirstEdgeFault G F x d t fault  the equation of this edge and coordinate has another value than 0, and each
+--                                     before it has 0
 use Rattle.std.specs.Prelude.{◌≡◌, ◌≢◌, ℕ, ◌+◌, ◌<◌, IsTrue}
 use Rattle.bmp_graph.specs.Graph.{Graph, edge_count, lower}
 use Rattle.bmp_sheaf.specs.Sheaves.{SheafData}

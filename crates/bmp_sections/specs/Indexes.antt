@@ -1,9 +1,12 @@
 -- Where positions and equations over the vertices above x stand, in memory. In the order to read:
 --   EquationPlace (declared)       an edge, and a coordinate of its edge module
---   SectionIndex (declared)        how many positions and equations there are; by vertex a start, and by equation a place
+--   SectionIndex (declared)        how many positions and equations there are; by vertex a start, and by equation a
+--                                  place
 --   AboveIsThere s x               the stalks at the vertices above x are there
---   HasRoom G F x d index          there is room for the vertices and for the equations, of which there are fewer than 2^32, as of positions
---   IsIndexed G F x d index        it has their numbers, at each vertex above x the start of its positions, and at each equation its place
+--   HasRoom G F x d index          there is room for the vertices and for the equations, of which there are fewer than
+--                                  2^32, as of positions
+--   IsIndexed G F x d index        it has their numbers, at each vertex above x the start of its positions, and at each
+--                                  equation its place
 --   IsIndexedBelow G F x d n index the same of the vertices below n, and of the edges that go up from them
 --   IsIndexFor s x d index         what is known where it is filled for x and d, of a sheaf in memory
 use Rattle.std.specs.Prelude.{◌≡◌, ℕ, ◌+◌, ◌^◌, ◌<◌, ◌≤◌, IsTrue, length, slice_index, slice_get, Some}
@@ -30,7 +33,8 @@ module _ (G : Graph) (F : SheafData) (x d : ℕ) where
   HasStart index y = slice_index index.starts.items y ≡ position_start G F (is_above G x) d y
 
   abbrev pub HasPlace : SectionIndex → ℕ → ℕ → Type 0
-  HasPlace index e i = slice_get index.places.items (equation_start G F (is_above G x) d e + i) ≡ Some (record { edge = e; coordinate = i })
+  HasPlace index e i = slice_get index.places.items (equation_start G F (is_above G x) d e + i)
+      ≡ Some (record { edge = e; coordinate = i })
 
   pub record IsIndexed (index : SectionIndex) : Type 0 where
     pub positions : index.positions ≡ position_count G F (is_above G x) d
@@ -39,14 +43,16 @@ module _ (G : Graph) (F : SheafData) (x d : ℕ) where
     pub vertices_within : vertex_count G ≤ length index.starts.items
     pub equations_within : equation_count G F (is_above G x) d ≤ length index.places.items
     pub starts : (y : ℕ) → y < vertex_count G → IsTrue (is_above G x y) → HasStart index y
-    pub places : (e i : ℕ) → e < edge_count G → IsTrue (is_above G x (lower G e)) → i < edge_module_count G F d e → HasPlace index e i
+    pub places : (e i : ℕ) → e < edge_count G → IsTrue (is_above G x (lower G e)) → i < edge_module_count G F d e →
+        HasPlace index e i
 
   -- while it is filled: the edges go up from the vertices below n
   pub record IsIndexedBelow (n : ℕ) (index : SectionIndex) : Type 0 where
     pub positions : index.positions ≡ position_start G F (is_above G x) d n
     pub equations : index.equations ≡ equation_start G F (is_above G x) d (first_edge G n)
     pub starts : (y : ℕ) → y < n → IsTrue (is_above G x y) → HasStart index y
-    pub places : (e i : ℕ) → e < edge_count G → lower G e < n → IsTrue (is_above G x (lower G e)) → i < edge_module_count G F d e → HasPlace index e i
+    pub places : (e i : ℕ) → e < edge_count G → lower G e < n → IsTrue (is_above G x (lower G e)) →
+        i < edge_module_count G F d e → HasPlace index e i
 
 pub record IsIndexFor {A : Type 0} (s : SheafState A) (x d : ℕ) (index : SectionIndex) : Type 0 where
   pub vertex : x < vertex_count s.graph

@@ -2,7 +2,8 @@
 --   some_below test n            the test is true of some number below n
 --   reaches G n x y              a chain of one edge or more, and of at most n, leads up from x to y
 --   is_above G x y               y is above x, as a test
---   equation_number G F U d s k  the value of the equation k on the tuple s, of degree d over the set U: edge after edge
+--   equation_number G F U d s k  the value of the equation k on the tuple s, of degree d over the set U: edge after
+--                                edge
 --   unit_tuple G F U d j         the tuple that is 1 at position j and 0 at the others
 --   equation_matrix G F x d      a row for each equation over the vertices above x, a column for each position
 use Rattle.std.specs.Prelude.{ℕ, zero, suc, ◌+◌, ◌-◌, ◌*◌, ◌%◌, ◌==◌, Bool, false, ◌&&◌, ◌||◌, if◌then◌else◌}
@@ -32,7 +33,8 @@ module _ (G : Graph) (F : SheafData) (U : ℕ → Bool) (d : ℕ) where
   abbrev pub equation_number : Tuple → ℕ → ℕ
   equation_number s =
       joined (λ e. if U (lower G e) && U (upper G e) then edge_module_count G F d e else 0)
-      (λ e i. (on_edge G F d e (lift_of G F e d (s (lower G e))) i + (G.prime - 1) * on_edge G F d e (s (upper G e)) i) % G.prime)
+      (λ e i. (on_edge G F d e (lift_of G F e d (s (lower G e))) i + (G.prime - 1) * on_edge G F d e (s (upper G e)) i)
+      % G.prime)
       (edge_count G)
 
   abbrev pub unit_tuple : ℕ → Tuple

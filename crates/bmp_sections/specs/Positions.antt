@@ -1,9 +1,11 @@
--- Positions of a tuple over a set of vertices, and the values of the edge equations. The set is given by a test. In the order to read:
+-- Positions of a tuple over a set of vertices, and the values of the edge equations. The set is given by a test. In the
+-- order to read:
 --   TestsAbove G x U             the test U is true at the vertices above x, and at no others
 --   position_start G F U d y     where the coordinates of the value at y stand, the vertices of U in rising order
 --   position_count G F U d       how many positions there are
 --   tuple_of G F U d numbers     the tuple with these numbers at its positions
---   equation_start G F U d e     where the equations of the edge e stand: one for each coordinate of its edge module, for the edges with both ends in U, in their order
+--   equation_start G F U d e     where the equations of the edge e stand: one for each coordinate of its edge module,
+--                                for the edges with both ends in U, in their order
 --   AreEquationValues ..         edge coordinates of the lift of the lower value less those of the upper value
 -- A tuple is a section exactly where all its equations' values are 0.
 use Rattle.std.specs.Prelude.{◌↔◌, ℕ, ◌+◌, ◌<◌, Bool, ◌&&◌, if◌then◌else◌, IsTrue}
@@ -44,7 +46,9 @@ module _ (G : Graph) (F : SheafData) (U : ℕ → Bool) (d : ℕ) where
     pub lower_is : OnEdge e (lift_of G F e d (s (lower G e))) from_lower
     pub upper_is : OnEdge e (s (upper G e)) from_upper
     pub below : (i : ℕ) → i < edge_module_count G F d e → values (equation_start e + i) < G.prime
-    pub difference : (i : ℕ) → i < edge_module_count G F d e → SameMod G.prime (values (equation_start e + i) + from_upper i) (from_lower i)
+    pub difference : (i : ℕ) → i < edge_module_count G F d e →
+        SameMod G.prime (values (equation_start e + i) + from_upper i) (from_lower i)
 
   abbrev pub AreEquationValues : Tuple → (ℕ → ℕ) → Type 0
-  AreEquationValues s values = (e : ℕ) → e < edge_count G → IsTrue (U (lower G e)) → IsTrue (U (upper G e)) → AreEquationsOn s values e
+  AreEquationValues s values = (e : ℕ) → e < edge_count G → IsTrue (U (lower G e)) → IsTrue (U (upper G e)) →
+      AreEquationsOn s values e

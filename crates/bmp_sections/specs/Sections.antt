@@ -25,10 +25,12 @@ module _ (G : Graph) (F : SheafData) where
       EqualOnEdge G F e d (lift_of G F e d (s (lower G e))) (s (upper G e))
 
   pub record IsReached (x d : ℕ) : Type 0 where
-    pub reached : (u : Element) → (s : Tuple) × IsSection (above G x) d s × SameBoundary G F x d (boundary_of_element G F d u) (boundary_of_tuple G s)
+    pub reached : (u : Element) → (s : Tuple) × IsSection (above G x) d s ×
+        SameBoundary G F x d (boundary_of_element G F d u) (boundary_of_tuple G s)
 
   pub record IsLifted (x d : ℕ) : Type 0 where
-    pub lifted : (s : Tuple) → IsSection (above G x) d s → (u : Element) × SameBoundary G F x d (boundary_of_element G F d u) (boundary_of_tuple G s)
+    pub lifted : (s : Tuple) → IsSection (above G x) d s →
+        (u : Element) × SameBoundary G F x d (boundary_of_element G F d u) (boundary_of_tuple G s)
 
   -- the coefficient at a generator of degree d is that of the monomial 1
   pub record IsMinimal (x d : ℕ) : Type 0 where

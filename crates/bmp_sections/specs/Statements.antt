@@ -1,5 +1,6 @@
 -- Laws of the definitions, as statements.
---   HasLabels p G            each label has a leading coordinate with an inverse modulo the prime p, in at most 6 variables
+--   HasLabels p G            each label has a leading coordinate with an inverse modulo the prime p, in at most 6
+--                            variables
 --   EquationsDecide          a tuple is a section exactly where all values of its edge equations are 0
 --   EquationNumbersDecide    a tuple is a section exactly where the numbers of all its edge equations are 0
 --   AboveIsTested            the test of what is above a vertex is true of that, and of nothing else
@@ -23,12 +24,14 @@ pub record HasLabels (p : ℕ) (G : Graph) : Type 0 where
 -- the equations of e: one for each generator of its upper end and each monomial without the leading variable
 abbrev pub VanishOn : Graph → SheafData → (ℕ → Bool) → ℕ → (ℕ → ℕ) → ℕ → Type 0
 VanishOn G F U d values e =
-    (g t : ℕ) (m : List ℕ) → HasComponent (F.degrees (upper G e)) d g t → IsMonomial 6 G.rank t m → slice_index m (leading G e) ≡ 0 →
+    (g t : ℕ) (m : List ℕ) → HasComponent (F.degrees (upper G e)) d g t → IsMonomial 6 G.rank t m →
+    slice_index m (leading G e) ≡ 0 →
     values (equation_start G F U d e + edge_place G.rank (leading G e) (F.degrees (upper G e)) d g m) ≡ 0
 
 abbrev pub EquationsDecide : Type 0
 EquationsDecide =
-    (q d : ℕ) (G : Graph) (F : SheafData) (U : ℕ → Bool) (s : Tuple) (values : ℕ → ℕ) → HasLabels (suc q) G → AreEquationValues G F U d s values →
+    (q d : ℕ) (G : Graph) (F : SheafData) (U : ℕ → Bool) (s : Tuple) (values : ℕ → ℕ) → HasLabels (suc q) G →
+    AreEquationValues G F U d s values →
     IsSection G F (λ y. IsTrue (U y)) d s
     ↔ ((e : ℕ) → e < edge_count G → IsTrue (U (lower G e)) → IsTrue (U (upper G e)) → VanishOn G F U d values e)
 

@@ -1,6 +1,6 @@
 -- Lists of tuples by their coordinates.
---   TupleList                how many tuples there are, the vertices at which they have values, how many coordinates each has there,
---                            and coordinate c of the value at y of the tuple j: value j y c
+--   TupleList                how many tuples there are, the vertices at which they have values, how many coordinates
+--                            each has there, and coordinate c of the value at y of the tuple j: value j y c
 --   tuples_in G F d list      the tuples, of degree d
 --   tuples_over G F x d vs   the tuples over the vertices above x whose positions have the numbers of the vectors
 use Rattle.std.specs.Prelude.{ℕ, ◌+◌, Bool, List, length}

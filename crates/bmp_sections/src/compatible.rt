@@ -22,8 +22,9 @@ pub struct EdgeFault {
     pub right: u32,
 }
 
-/// Checks that a tuple over the vertices above `x`, of degree `d`, is a section: that the lift of its lower value and its upper value
-/// are equal on each edge. The tuple has the numbers of `t` at its positions, for which the index is filled.
+/// Checks that a tuple over the vertices above `x`, of degree `d`, is a section: that the lift of its lower value and
+/// its upper value are equal on each edge. The tuple has the numbers of `t` at its positions, for which the index is
+/// filled.
 ///
 /// The fault is the first equation that fails, by edge, and then by coordinate. Takes no memory.
 pub fn compatible<F: Field>(
@@ -35,7 +36,8 @@ pub fn compatible<F: Field>(
     s: &mut Scratch,
 ) -> Result<(), EdgeFault>
     requires indexed { IsIndexFor sheaf.now x d index.now }
-    requires fits { let G = sheaf.now.graph in FitsBelow t.now (position_count G (sheaf_of sheaf.now) (is_above G x) d) }
+    requires fits { let G = sheaf.now.graph in
+        FitsBelow t.now (position_count G (sheaf_of sheaf.now) (is_above G x) d) }
     requires values { ValuesBelow t.now sheaf.now.graph.prime }
     requires room { let G = sheaf.now.graph in
         position_count G (sheaf_of sheaf.now) (is_above G x) d ≤ length s.old.first }
@@ -74,7 +76,8 @@ fn first_fault<F: Field>(
     numbers: &[u8],
 ) -> Result<(), EdgeFault>
     requires indexed { IsIndexFor sheaf.now x d index.now }
-    requires fits { let G = sheaf.now.graph in FitsBelow t.now (position_count G (sheaf_of sheaf.now) (is_above G x) d) }
+    requires fits { let G = sheaf.now.graph in
+        FitsBelow t.now (position_count G (sheaf_of sheaf.now) (is_above G x) d) }
     requires values { ValuesBelow t.now sheaf.now.graph.prime }
     requires numbers { let G = sheaf.now.graph in
         IsSpread t.now (position_count G (sheaf_of sheaf.now) (is_above G x) d) numbers.now }

@@ -15,8 +15,8 @@ use bmp_linear::{RowSpace, Rows, SparseRows, Vector};
 use bmp_sheaf::Sheaf;
 use std::alloc::{AllocError, Global};
 
-/// The edge equations over the vertices above `x`, in degree `d`, for which the index is filled: the rows of `Equations`, each kept as
-/// its entries.
+/// The edge equations over the vertices above `x`, in degree `d`, for which the index is filled: the rows of
+/// `Equations`, each kept as its entries.
 pub fn constraints<F: Field>(
     alloc: Global,
     sheaf: &Sheaf<F>,

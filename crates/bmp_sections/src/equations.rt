@@ -12,8 +12,8 @@ use bmp_field::Field;
 use bmp_linear::{Rows, Vector, add_entries, value_of};
 use bmp_sheaf::Sheaf;
 
-/// The edge equations over the vertices above a vertex in one degree: a row for each equation, a column for each position. It keeps
-/// no rows of its own, and finds its edges by an index.
+/// The edge equations over the vertices above a vertex in one degree: a row for each equation, a column for each
+/// position. It keeps no rows of its own, and finds its edges by an index.
 #[derive(Drop)]
 pub struct Equations<'a, F: Field> {
     sheaf: &'a Sheaf<F>,

@@ -16,8 +16,8 @@ pub struct EquationPlace {
     pub coordinate: u32,
 }
 
-/// Room to say where the positions and the equations over the vertices above a vertex stand, in one degree. It is filled for one
-/// vertex and degree after another.
+/// Room to say where the positions and the equations over the vertices above a vertex stand, in one degree. It is
+/// filled for one vertex and degree after another.
 #[derive(Debug, Drop)]
 pub struct SectionIndex {
     pub(crate) positions: u32,

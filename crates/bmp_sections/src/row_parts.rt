@@ -23,7 +23,8 @@ impl RowParts<'_> {
         requires lower { IsSparse self.now.lower.now }
         requires upper { IsSparse self.now.upper.now }
         requires below { ValuesBelow self.now.upper.now self.now.prime }
-        ensures { result ≡ part_number self.now.prime self.now.lower.now self.now.upper.now self.now.low self.now.high column }
+        ensures { result ≡ part_number self.now.prime self.now.lower.now self.now.upper.now self.now.low self.now.high
+            column }
     {
         if column >= self.high {
             let number = number_of(self.upper, u64::from(column - self.high));

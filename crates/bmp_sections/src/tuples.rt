@@ -11,8 +11,8 @@ use bmp_field::Field;
 use bmp_linear::{Scratch, Vectors};
 use bmp_sheaf::Sheaf;
 
-/// A list of tuples over the vertices above a vertex in one degree. It keeps none of them: their positions have the numbers of the
-/// vectors, and stand where an index tells.
+/// A list of tuples over the vertices above a vertex in one degree. It keeps none of them: their positions have the
+/// numbers of the vectors, and stand where an index tells.
 #[derive(Drop)]
 pub struct Tuples<'a, F: Field> {
     sheaf: &'a Sheaf<F>,

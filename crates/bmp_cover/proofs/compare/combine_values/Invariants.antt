@@ -15,7 +15,8 @@ abbrev pub invariant-loop-factor : goal.invariant-loop-factor
 invariant-loop-factor g l = record {
   combined :
       (c : ℕ) → c < (g.T.Sections.list l.tuples).size l.y →
-      get_or l.s.second c 0 ≡ entry_sum (take l.factor-index l.factors) (λ j. (g.T.Sections.list l.tuples).value j l.y c) % g.F.Field.size l.f;
+      get_or l.s.second c 0 ≡ entry_sum (take l.factor-index l.factors)
+      (λ j. (g.T.Sections.list l.tuples).value j l.y c) % g.F.Field.size l.f;
   first : l.s.first ≡ l.fn.s.first;
   room : length l.s.second ≡ length l.fn.s.second;
 }

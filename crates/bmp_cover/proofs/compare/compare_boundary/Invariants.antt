@@ -16,6 +16,9 @@ invariant-loop-edge g l =
     let list = g.T.Sections.list l.tuples in
     record {
       start : l.start ≡ boundary_start G (sheaf_of l.sheaf) l.x l.d l.edge;
-      agree : AgreeBelow l.start (λ k. get_or l.fn.s.first k 0) (boundary_number G (sheaf_of l.sheaf) l.x l.d (boundary_of_tuple G (combined_tuple (number_at l.factors) (tuples_in G (sheaf_of l.sheaf) l.d list) list.count)));
+      agree : AgreeBelow l.start (λ k. get_or l.fn.s.first k 0)
+          (boundary_number G (sheaf_of l.sheaf) l.x l.d
+          (boundary_of_tuple G
+          (combined_tuple (number_at l.factors) (tuples_in G (sheaf_of l.sheaf) l.d list) list.count)));
       first : l.s.first ≡ l.fn.s.first;
     }

@@ -12,4 +12,5 @@ abbrev pub invariant-loop-i : goal.invariant-loop-i
 invariant-loop-i g l =
     let G = l.sheaf.graph in
     AgreeBelow l.i (λ i. get_or l.s.first (l.start + i) 0)
-    (on_edge G (sheaf_of l.sheaf) l.d l.edge (element_of G.rank ((sheaf_of l.sheaf).degrees (upper G l.edge)) l.d (slice_index l.s.second)))
+    (on_edge G (sheaf_of l.sheaf) l.d l.edge
+    (element_of G.rank ((sheaf_of l.sheaf).degrees (upper G l.edge)) l.d (slice_index l.s.second)))

@@ -21,7 +21,8 @@ pub loop-g-init : goal.loop-g-init
 loop-g-init g c =
     let s = c.args.sheaf.now in
     record {
-      passed = pass_none (ComparesSource s.graph (sheaf_of s) c.args.x c.args.d (g.T.Sections.list c.args.tuples.now) c.args.e.now);
+      passed = pass_none
+          (ComparesSource s.graph (sheaf_of s) c.args.x c.args.d (g.T.Sections.list c.args.tuples.now) c.args.e.now);
       own = start_none s.graph.rank ((sheaf_of s).degrees c.args.x) c.args.d;
       next = refl;
       room = refl;
@@ -35,8 +36,10 @@ generator_boundary-requires-clause-place g c =
     let degrees = c.stalk-module.ensures.degrees in
     let below = subst (λ m. c.loop-g.g < m) (c.generators-g-end.ensures ∙ ap length degrees) c.loop-g-test.true in
     let is_new = ap (λ l. slice_index l c.loop-g.g) (sym degrees) ∙ sym c.degree_of.ensures ∙ c.if-degree_of-d.true in
-    subst (λ k. k < stalk_count c.args.sheaf.now.graph.rank ((sheaf_of c.args.sheaf.now).degrees c.args.x) c.args.d) (sym (own_place G F c.args.x c.args.d h c.loop-g.own c.loop-g.invariant.own))
-    (generator_place_below G F c.args.x c.args.d c.stalk-module.ensures.state.over h c.stalk-module.ensures.state.wide below is_new)
+    subst (λ k. k < stalk_count c.args.sheaf.now.graph.rank ((sheaf_of c.args.sheaf.now).degrees c.args.x) c.args.d)
+    (sym (own_place G F c.args.x c.args.d h c.loop-g.own c.loop-g.invariant.own))
+    (generator_place_below G F c.args.x c.args.d c.stalk-module.ensures.state.over h c.stalk-module.ensures.state.wide
+    below is_new)
 
 pub at-source-requires : goal.at-source-requires
 at-source-requires g c =
@@ -44,7 +47,12 @@ at-source-requires g c =
     let degrees = c.stalk-module.ensures.degrees in
     let below = subst (λ m. c.loop-g.g < m) (c.generators-g-end.ensures ∙ ap length degrees) c.loop-g-test.true in
     let is_new = ap (λ l. slice_index l c.loop-g.g) (sym degrees) ∙ sym c.degree_of.ensures ∙ c.if-degree_of-d.true in
-    omega (arith, c.loop-g.invariant.next, c.requires.fits.sources, place_within F c.args.x c.args.d c.loop-g.g below is_new)
+    omega (
+      arith,
+      c.loop-g.invariant.next,
+      c.requires.fits.sources,
+      place_within F c.args.x c.args.d c.loop-g.g below is_new,
+    )
 
 pub returns-in-Some-clause-fault : goal.returns-in-Some-clause-fault
 returns-in-Some-clause-fault g c =
@@ -60,13 +68,19 @@ returns-in-Some-clause-fault g c =
     let below = subst (λ m. c.loop-g.g < m) (c.generators-g-end.ensures ∙ ap length degrees) c.loop-g-test.true in
     let is_new = ap (λ l. slice_index l c.loop-g.g) (sym degrees) ∙ sym c.degree_of.ensures ∙ c.if-degree_of-d.true in
     let own = own_place G F x d h c.loop-g.own c.loop-g.invariant.own in
-    let written = c.entries.ensures.items ∙ c.at-source.ensures ∙ ap (λ m. slice_index_or c.args.e.now.sources m []) c.loop-g.invariant.next in
+    let written = c.entries.ensures.items ∙ c.at-source.ensures
+    ∙ ap (λ m. slice_index_or c.args.e.now.sources m []) c.loop-g.invariant.next in
     let moved =
     difference_moved _ _ (source_left G F x d list e h) (source_right G F x d list e h) n c.in-Some.difference
-    (λ k l. c.generator_boundary.ensures.numbers k l ∙ ap (λ j. boundary_number G F x d (boundary_of_element G F d (unit_at G.rank (F.degrees x) d j)) k) own)
-    (λ k l. ap (λ v. boundary_number G F x d (boundary_of_tuple G (combined_tuple (number_at v) (tuples_in G F d list) list.count)) k) written) c.in-Some.ensures.compared in
+    (λ k l. c.generator_boundary.ensures.numbers k l
+    ∙ ap (λ j. boundary_number G F x d (boundary_of_element G F d (unit_at G.rank (F.degrees x) d j)) k) own)
+    (λ k l. ap (λ v. boundary_number G F x d
+    (boundary_of_tuple G (combined_tuple (number_at v) (tuples_in G F d list) list.count)) k) written)
+    c.in-Some.ensures.compared in
     subst (IsFirstCoverFailure (ComparesSource G F x d list e)) (sym c.fault.ensures)
-    (index_fails (ComparesSource G F x d list e) Source h n (source_left G F x d list e h) (source_right G F x d list e h) (source_sides G F x d list e h below is_new) c.loop-g.invariant.passed c.in-Some.difference moved)
+    (index_fails (ComparesSource G F x d list e) Source h n (source_left G F x d list e h)
+    (source_right G F x d list e h) (source_sides G F x d list e h below is_new) c.loop-g.invariant.passed
+    c.in-Some.difference moved)
 
 pub loop-g-preserved : goal.loop-g-preserved
 loop-g-preserved g c =
@@ -81,27 +95,37 @@ loop-g-preserved g c =
     let degrees = c.stalk-module.ensures.degrees in
     let below = subst (λ m. c.loop-g.g < m) (c.generators-g-end.ensures ∙ ap length degrees) c.loop-g-test.true in
     let degree = ap (λ l. slice_index l c.loop-g.g) (sym degrees) ∙ sym c.degree_of.ensures in
-    let after = c.next_start-own.ensures ∙ ap₂ (λ r l. stalk_start r l c.args.d (c.loop-g.g + 1)) c.stalk-module.ensures.rank degrees in
+    let after = c.next_start-own.ensures
+    ∙ ap₂ (λ r l. stalk_start r l c.args.d (c.loop-g.g + 1)) c.stalk-module.ensures.rank degrees in
     let own = own_place G F x d h c.loop-g.own c.loop-g.invariant.own in
     elim c.if-degree_of-d.branch [
       | then-degree_of-d+in_default w ↦
           let is_new = degree ∙ w.if-degree_of-d.true in
-          let written = w.entries.ensures.items ∙ w.at-source.ensures ∙ ap (λ m. slice_index_or c.args.e.now.sources m []) c.loop-g.invariant.next in
+          let written = w.entries.ensures.items ∙ w.at-source.ensures
+          ∙ ap (λ m. slice_index_or c.args.e.now.sources m []) c.loop-g.invariant.next in
           record {
             passed =
-                index_passes (ComparesSource G F x d list e) Source h n (source_left G F x d list e h) (source_right G F x d list e h) (source_sides G F x d list e h below is_new) c.loop-g.invariant.passed
+                index_passes (ComparesSource G F x d list e) Source h n (source_left G F x d list e h)
+                (source_right G F x d list e h) (source_sides G F x d list e h below is_new)
+                c.loop-g.invariant.passed
                 (λ k l.
-                sym (w.generator_boundary.ensures.numbers k l ∙ ap (λ j. boundary_number G F x d (boundary_of_element G F d (unit_at G.rank (F.degrees x) d j)) k) own)
+                sym (w.generator_boundary.ensures.numbers k l
+                ∙ ap (λ j. boundary_number G F x d (boundary_of_element G F d (unit_at G.rank (F.degrees x) d j)) k)
+                own)
                 ∙ w.in_default.ensures.compared k l
-                ∙ ap (λ v. boundary_number G F x d (boundary_of_tuple G (combined_tuple (number_at v) (tuples_in G F d list) list.count)) k) written);
+                ∙ ap (λ v. boundary_number G F x d
+                (boundary_of_tuple G (combined_tuple (number_at v) (tuples_in G F d list) list.count)) k) written);
             own = after;
             next = w.next-is ∙ ap (λ m. m + 1) c.loop-g.invariant.next ∙ sym (place_after_new F x d h below is_new);
-            room = ap (λ (t : Work). length t.first) w.s-is ∙ ap length w.compare_boundary.ensures.first ∙ w.generator_boundary.ensures.rest.first ∙ c.loop-g.invariant.room;
+            room = ap (λ (t : Work). length t.first) w.s-is ∙ ap length w.compare_boundary.ensures.first
+                ∙ w.generator_boundary.ensures.rest.first ∙ c.loop-g.invariant.room;
           }
       | else-degree_of-d w ↦
-          let other : slice_index ((sheaf_of c.args.sheaf.now).degrees c.args.x) c.loop-g.g ≢ c.args.d = λ same. w.if-degree_of-d.false (sym degree ∙ same) in
+          let other : slice_index ((sheaf_of c.args.sheaf.now).degrees c.args.x) c.loop-g.g ≢ c.args.d =
+          λ same. w.if-degree_of-d.false (sym degree ∙ same) in
           record {
-            passed = index_skipped (ComparesSource G F x d list e) h (no_source G F x d list e h other) c.loop-g.invariant.passed;
+            passed = index_skipped (ComparesSource G F x d list e) h (no_source G F x d list e h other)
+                c.loop-g.invariant.passed;
             own = after;
             next = w.next-is ∙ c.loop-g.invariant.next ∙ sym (place_after_other F x d h below other);
             room = ap (λ (t : Work). length t.first) w.s-is ∙ c.loop-g.invariant.room;

@@ -7,9 +7,12 @@ use Rattle.bmp_sections.proofs.compatible.compatible.Goals as goal
 pub returns-clause-section : goal.returns-clause-section
 returns-clause-section g c =
     let s = c.args.sheaf.now in
-    on_ok_weaker c.first_fault.result (none_fails s.graph (sheaf_of s) c.args.x c.args.d c.graph.ensures.state.over (number_at c.args.t.now)) c.first_fault.ensures.passed
+    on_ok_weaker c.first_fault.result
+    (none_fails s.graph (sheaf_of s) c.args.x c.args.d c.graph.ensures.state.over (number_at c.args.t.now))
+    c.first_fault.ensures.passed
 
 pub returns-clause-none : goal.returns-clause-none
 returns-clause-none g c =
     let s = c.args.sheaf.now in
-    on_err_then _ _ c.first_fault.result c.first_fault.ensures.fault (one_fails s.graph (sheaf_of s) c.args.x c.args.d c.graph.ensures.state.over (number_at c.args.t.now))
+    on_err_then _ _ c.first_fault.result c.first_fault.ensures.fault
+    (one_fails s.graph (sheaf_of s) c.args.x c.args.d c.graph.ensures.state.over (number_at c.args.t.now))

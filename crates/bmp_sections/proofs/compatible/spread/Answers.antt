@@ -16,12 +16,19 @@ pub loop-entry-preserved : goal.loop-entry-preserved
 loop-entry-preserved c =
     let entries = c.entries-entry-items.result.now in
     let d : Entry = record { place = 0; value = 0 } in
-    let first = ap (λ (w : Work). w.first) c.set-in-loop-entry.ensures ∙ ap (λ z. set c.loop-entry.s.first z (get_or c.entries-entry-items.result.now c.loop-entry.entry-index (record { place = 0; value = 0 })).value) c.from.ensures in
+    let first = ap (λ (w : Work). w.first) c.set-in-loop-entry.ensures
+    ∙ ap (λ z. set c.loop-entry.s.first z
+    (get_or c.entries-entry-items.result.now c.loop-entry.entry-index (record { place = 0; value = 0 })).value)
+    c.from.ensures in
     let fits = subst (λ v. FitsBelow v c.args.len) (sym c.entries-entry-items.ensures.items) c.requires.fits in
     record {
       written =
-          subst (λ ns. (j : ℕ) → j < c.args.len → get_or ns j 0 ≡ number_at (take (c.loop-entry.entry-index + 1) c.entries-entry-items.result.now) j) (sym first)
-          (spread_more entries c.loop-entry.s.first c.args.len c.loop-entry.entry-index d c.entries-entry-items.ensures.sparse.rising c.loop-entry-test.true (omega (arith, c.requires.room, c.loop-entry.invariant.room))
+          subst (λ ns. (j : ℕ) → j < c.args.len →
+          get_or ns j 0 ≡ number_at (take (c.loop-entry.entry-index + 1) c.entries-entry-items.result.now) j)
+          (sym first)
+          (spread_more entries c.loop-entry.s.first c.args.len c.loop-entry.entry-index d
+          c.entries-entry-items.ensures.sparse.rising c.loop-entry-test.true
+          (omega (arith, c.requires.room, c.loop-entry.invariant.room))
           (fits c.loop-entry.entry-index d c.loop-entry-test.true) c.loop-entry.invariant.written);
       room = ap length first ∙ length-set c.loop-entry.s.first _ _ ∙ c.loop-entry.invariant.room;
     }

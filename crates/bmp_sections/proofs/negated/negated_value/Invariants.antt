@@ -7,4 +7,5 @@ use Rattle.bmp_sections.proofs.negated.negated_value.Given as goal
 abbrev pub invariant-loop-entry : goal.invariant-loop-entry
 invariant-loop-entry g l =
     (g.F.Field.is_value l.f l.sum)
-    × (g.F.Field.num l.f l.sum ≡ entry_sum (take l.entry-index (negated l.p l.entries)) (λ j. get_or l.numbers j 0) % g.F.Field.size l.f)
+    × (g.F.Field.num l.f l.sum ≡ entry_sum (take l.entry-index (negated l.p l.entries)) (λ j. get_or l.numbers j 0)
+    % g.F.Field.size l.f)

@@ -5,12 +5,16 @@ use Rattle.bmp_sections.proofs.runs.first_from.Goals as goal
 
 pub returns-clause-passed : goal.returns-clause-passed
 returns-clause-passed c =
-    let parted = IsPartitionedBy-ltb (λ e. e.place) c.args.entries.now c.args.place (places_rise c.args.entries.now c.requires.rising) in
-    let point = IsPartitionPoint-from_clause (λ e. ltb e.place c.args.place) _ _ c.partition_point.ensures.partitioned parted (λ a r q k. search rules) in
+    let parted = IsPartitionedBy-ltb (λ e. e.place) c.args.entries.now c.args.place
+    (places_rise c.args.entries.now c.requires.rising) in
+    let point = IsPartitionPoint-from_clause (λ e. ltb e.place c.args.place) _ _ c.partition_point.ensures.partitioned
+    parted (λ a r q k. search rules) in
     taken_before c.args.entries.now c.partition_point.result c.args.place point
 
 pub returns-clause-reached : goal.returns-clause-reached
 returns-clause-reached c =
-    let parted = IsPartitionedBy-ltb (λ e. e.place) c.args.entries.now c.args.place (places_rise c.args.entries.now c.requires.rising) in
-    let point = IsPartitionPoint-from_clause (λ e. ltb e.place c.args.place) _ _ c.partition_point.ensures.partitioned parted (λ a r q k. search rules) in
+    let parted = IsPartitionedBy-ltb (λ e. e.place) c.args.entries.now c.args.place
+    (places_rise c.args.entries.now c.requires.rising) in
+    let point = IsPartitionPoint-from_clause (λ e. ltb e.place c.args.place) _ _ c.partition_point.ensures.partitioned
+    parted (λ a r q k. search rules) in
     reached_from c.args.entries.now c.partition_point.result c.args.place point

@@ -8,4 +8,5 @@ from_num-requires g c =
 
 pub returns-clause-number : goal.returns-clause-number
 returns-clause-number g c =
-    c.from_num.ensures.number ∙ c.from.ensures ∙ c.number.ensures ∙ sym (c.parts-row.ensures.same c.args.j c.requires.column)
+    c.from_num.ensures.number ∙ c.from.ensures ∙ c.number.ensures
+    ∙ sym (c.parts-row.ensures.same c.args.j c.requires.column)

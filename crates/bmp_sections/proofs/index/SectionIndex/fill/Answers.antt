@@ -14,12 +14,15 @@ loop-y-init g c = record {
 pub returns-clause-indexed : goal.returns-clause-indexed
 returns-clause-indexed g c =
     let s = c.args.sheaf.now in
-    let all : c.loop-y.y ≡ vertex_count s.graph = omega (arith, c.vertices-y-end.ensures.count, ap vertex_count c.graph.ensures.graph) in
+    let all : c.loop-y.y ≡ vertex_count s.graph =
+    omega (arith, c.vertices-y-end.ensures.count, ap vertex_count c.graph.ensures.graph) in
     record {
       vertex = c.requires.vertex;
       there = c.requires.there;
       degree = c.requires.degree;
       indexed =
-          indexed_all s.graph (sheaf_of s) c.args.x c.args.d c.loop-y.self c.loop-y.y c.graph.ensures.state.over.is_graph all c.loop-y.invariant.indexed
-          c.requires.room.few_positions (omega (arith, c.requires.room.vertices, c.loop-y.invariant.starts)) (omega (arith, c.requires.room.equations, c.loop-y.invariant.places));
+          indexed_all s.graph (sheaf_of s) c.args.x c.args.d c.loop-y.self c.loop-y.y
+          c.graph.ensures.state.over.is_graph all c.loop-y.invariant.indexed
+          c.requires.room.few_positions (omega (arith, c.requires.room.vertices, c.loop-y.invariant.starts))
+          (omega (arith, c.requires.room.equations, c.loop-y.invariant.places));
     }

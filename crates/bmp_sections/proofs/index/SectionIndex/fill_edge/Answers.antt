@@ -13,7 +13,8 @@ loop-coordinate-preserved c =
     record {
       equations = omega arith;
       added = places_more s.places.items old.equations c.args.edge n s.equations i.equations within i.added;
-      kept = λ k below. places_kept s.places.items old.equations n s.equations (record { edge = c.args.edge; coordinate = n }) i.equations k below ∙ i.kept k below;
+      kept = λ k below. places_kept s.places.items old.equations n s.equations
+          (record { edge = c.args.edge; coordinate = n }) i.equations k below ∙ i.kept k below;
       positions = i.positions;
       starts = i.starts;
       places = length-set s.places.items s.equations (record { edge = c.args.edge; coordinate = n }) ∙ i.places;

@@ -14,8 +14,11 @@ loop-c-preserved g c =
     record {
       added =
           subst (λ l. IsAddedBelow p row 0 factor (c.loop-c.c + 1) c.args.s.now.second l) (sym second)
-          (added_more p row 0 factor c.args.s.now.second c.loop-c.c c.loop-c.s.second _ _ _ _ (omega (arith, c.loop-c.invariant.room, c.requires.room, c.size-c-end.ensures)) c.loop-c.invariant.added
-          (c.from_num-sum.ensures.number ∙ c.from.ensures ∙ c.get.ensures) c.mul-term.ensures.number (c.from_num.ensures.number ∙ c.from-in-loop-c.ensures ∙ c.at.ensures) (c.num.ensures ∙ c.add.ensures.number));
+          (added_more p row 0 factor c.args.s.now.second c.loop-c.c c.loop-c.s.second _ _ _ _
+          (omega (arith, c.loop-c.invariant.room, c.requires.room, c.size-c-end.ensures)) c.loop-c.invariant.added
+          (c.from_num-sum.ensures.number ∙ c.from.ensures ∙ c.get.ensures) c.mul-term.ensures.number
+          (c.from_num.ensures.number ∙ c.from-in-loop-c.ensures ∙ c.at.ensures)
+          (c.num.ensures ∙ c.add.ensures.number));
       first = ap (λ (w : Work). w.first) c.set.ensures ∙ c.loop-c.invariant.first;
       room = ap length second ∙ length-set c.loop-c.s.second c.loop-c.c _ ∙ c.loop-c.invariant.room;
     }
