@@ -49,7 +49,8 @@ IsDone-last x i w j h =
       | inr p ↦ elim (cases_eq j i) [ inl same ↦ inr (p.0, same) | inr apart ↦ inl (inr (p.0, omega (arith, p.1))) ]
     ]
 
-pub IsFound-more : (roots : Roots) (list : List Elem) (x i : ℕ) (d : RootEdge) → IsFound roots list x i d → IsFound roots list x (i + 1) d
+pub IsFound-more : (roots : Roots) (list : List Elem) (x i : ℕ) (d : RootEdge) → IsFound roots list x i d →
+    IsFound roots list x (i + 1) d
 IsFound-more roots list x i d h = record { done = IsDone-more x i d.lower d.root h.done; edge = h.edge }
 
 abbrev pub root_edge : ℕ → ℕ → ℕ → RootEdge
@@ -59,7 +60,8 @@ root_edge x y i = record { lower = x; upper = y; root = i }
 pub record IsPlace (edges : List RootEdge) (x y place : ℕ) : Type 0 where
   pub within : place ≤ length edges
   pub before : (e : ℕ) (o : RootEdge) → e < place → ComesBefore (get_or edges e o).lower (get_or edges e o).upper x y
-  pub after : (e : ℕ) (o : RootEdge) → place ≤ e → e < length edges → ComesBefore x y (get_or edges e o).lower (get_or edges e o).upper
+  pub after : (e : ℕ) (o : RootEdge) → place ≤ e → e < length edges →
+      ComesBefore x y (get_or edges e o).lower (get_or edges e o).upper
 
 -- what stands at each place after an insertion
 pub inserted_at : (P : RootEdge → Type 0) (edges : List RootEdge) (place : ℕ) (new : RootEdge) → place ≤ length edges
@@ -70,16 +72,19 @@ inserted_at P edges place new within here others e o h =
     elim (cases_lt e place) [
       | inl lt ↦ subst P (sym (get_or-insert_below edges place new o e lt within)) (others e o (omega arith))
       | inr le ↦ elim (cases_eq e place) [
-        | inl same ↦ subst P (sym (ap (λ k. get_or (insert edges place new) k o) same ∙ get_or-insert_at edges place new o within)) here
+        | inl same ↦ subst P
+            (sym (ap (λ k. get_or (insert edges place new) k o) same ∙ get_or-insert_at edges place new o within)) here
         | inr apart ↦
             let next : (e - 1) + 1 ≡ e = omega arith in
-            subst P (sym (ap (λ k. get_or (insert edges place new) k o) (sym next) ∙ get_or-insert_above edges place new o (e - 1) (omega arith) within))
+            subst P (sym (ap (λ k. get_or (insert edges place new) k o) (sym next)
+            ∙ get_or-insert_above edges place new o (e - 1) (omega arith) within))
             (others (e - 1) o (omega arith))
       ]
     ]
 
 -- an edge that was there is still there
-pub HasEdge-insert : (edges : List RootEdge) (place w y : ℕ) (new : RootEdge) → place ≤ length edges → HasEdge edges w y → HasEdge (insert edges place new) w y
+pub HasEdge-insert : (edges : List RootEdge) (place w y : ℕ) (new : RootEdge) → place ≤ length edges →
+    HasEdge edges w y → HasEdge (insert edges place new) w y
 HasEdge-insert edges place w y new within has =
     let longer = length-insert edges place new within in
     let inside = has.within in
@@ -87,19 +92,24 @@ HasEdge-insert edges place w y new within has =
       | inl lt ↦ record {
         place = has.place;
         within = omega arith;
-        lower = λ o. ap (λ (d : RootEdge). d.lower) (get_or-insert_below edges place new o has.place lt within) ∙ has.lower o;
-        upper = λ o. ap (λ (d : RootEdge). d.upper) (get_or-insert_below edges place new o has.place lt within) ∙ has.upper o;
+        lower = λ o. ap (λ (d : RootEdge). d.lower) (get_or-insert_below edges place new o has.place lt within)
+            ∙ has.lower o;
+        upper = λ o. ap (λ (d : RootEdge). d.upper) (get_or-insert_below edges place new o has.place lt within)
+            ∙ has.upper o;
       }
       | inr le ↦ record {
         place = has.place + 1;
         within = omega arith;
-        lower = λ o. ap (λ (d : RootEdge). d.lower) (get_or-insert_above edges place new o has.place le within) ∙ has.lower o;
-        upper = λ o. ap (λ (d : RootEdge). d.upper) (get_or-insert_above edges place new o has.place le within) ∙ has.upper o;
+        lower = λ o. ap (λ (d : RootEdge). d.lower) (get_or-insert_above edges place new o has.place le within)
+            ∙ has.lower o;
+        upper = λ o. ap (λ (d : RootEdge). d.upper) (get_or-insert_above edges place new o has.place le within)
+            ∙ has.upper o;
       }
     ]
 
 -- the new edge is there
-pub HasEdge-here : (edges : List RootEdge) (place : ℕ) (new : RootEdge) → place ≤ length edges → HasEdge (insert edges place new) new.lower new.upper
+pub HasEdge-here : (edges : List RootEdge) (place : ℕ) (new : RootEdge) → place ≤ length edges →
+    HasEdge (insert edges place new) new.lower new.upper
 HasEdge-here edges place new within = record {
   place = place;
   within = omega (arith, length-insert edges place new within);
@@ -113,39 +123,51 @@ EdgeBefore a b = ComesBefore a.lower a.upper b.lower b.upper
 -- the order stays where the new edge goes between the lesser and the greater ones
 pub order_inserted : (edges : List RootEdge) (place : ℕ) (new : RootEdge) → IsPlace edges new.lower new.upper place
     → ((d e : ℕ) (o : RootEdge) → d < e → e < length edges → EdgeBefore (get_or edges d o) (get_or edges e o))
-    → (d e : ℕ) (o : RootEdge) → d < e → e < length (insert edges place new) → EdgeBefore (get_or (insert edges place new) d o) (get_or (insert edges place new) e o)
+    → (d e : ℕ) (o : RootEdge) → d < e → e < length (insert edges place new) →
+    EdgeBefore (get_or (insert edges place new) d o) (get_or (insert edges place new) e o)
 order_inserted edges place new is order d e o lt h =
     let within = is.within in
     let longer = length-insert edges place new within in
     elim (cases_lt e place) [
       | inl both ↦
-          subst (λ a. EdgeBefore a (get_or (insert edges place new) e o)) (sym (get_or-insert_below edges place new o d (omega arith) within))
-          (subst (λ b. EdgeBefore (get_or edges d o) b) (sym (get_or-insert_below edges place new o e both within)) (order d e o lt (omega arith)))
+          subst (λ a. EdgeBefore a (get_or (insert edges place new) e o))
+          (sym (get_or-insert_below edges place new o d (omega arith) within))
+          (subst (λ b. EdgeBefore (get_or edges d o) b) (sym (get_or-insert_below edges place new o e both within))
+          (order d e o lt (omega arith)))
       | inr le ↦ elim (cases_eq e place) [
         | inl same ↦
             let at = ap (λ k. get_or (insert edges place new) k o) same ∙ get_or-insert_at edges place new o within in
             subst (λ b. EdgeBefore (get_or (insert edges place new) d o) b) (sym at)
-            (subst (λ a. EdgeBefore a new) (sym (get_or-insert_below edges place new o d (omega arith) within)) (is.before d o (omega arith)))
+            (subst (λ a. EdgeBefore a new) (sym (get_or-insert_below edges place new o d (omega arith) within))
+            (is.before d o (omega arith)))
         | inr above ↦
             let next : (e - 1) + 1 ≡ e = omega arith in
-            let upper_at = ap (λ k. get_or (insert edges place new) k o) (sym next) ∙ get_or-insert_above edges place new o (e - 1) (omega arith) within in
+            let upper_at = ap (λ k. get_or (insert edges place new) k o) (sym next)
+            ∙ get_or-insert_above edges place new o (e - 1) (omega arith) within in
             subst (λ b. EdgeBefore (get_or (insert edges place new) d o) b) (sym upper_at)
             (elim (cases_lt d place) [
-              | inl below ↦ subst (λ a. EdgeBefore a (get_or edges (e - 1) o)) (sym (get_or-insert_below edges place new o d below within)) (order d (e - 1) o (omega arith) (omega arith))
+              | inl below ↦ subst (λ a. EdgeBefore a (get_or edges (e - 1) o))
+                  (sym (get_or-insert_below edges place new o d below within))
+                  (order d (e - 1) o (omega arith) (omega arith))
               | inr more ↦ elim (cases_eq d place) [
                 | inl here ↦
-                    let at = ap (λ k. get_or (insert edges place new) k o) here ∙ get_or-insert_at edges place new o within in
-                    subst (λ a. EdgeBefore a (get_or edges (e - 1) o)) (sym at) (is.after (e - 1) o (omega arith) (omega arith))
+                    let at = ap (λ k. get_or (insert edges place new) k o) here
+                    ∙ get_or-insert_at edges place new o within in
+                    subst (λ a. EdgeBefore a (get_or edges (e - 1) o)) (sym at)
+                    (is.after (e - 1) o (omega arith) (omega arith))
                 | inr far ↦
                     let back : (d - 1) + 1 ≡ d = omega arith in
-                    let at = ap (λ k. get_or (insert edges place new) k o) (sym back) ∙ get_or-insert_above edges place new o (d - 1) (omega arith) within in
-                    subst (λ a. EdgeBefore a (get_or edges (e - 1) o)) (sym at) (order (d - 1) (e - 1) o (omega arith) (omega arith))
+                    let at = ap (λ k. get_or (insert edges place new) k o) (sym back)
+                    ∙ get_or-insert_above edges place new o (d - 1) (omega arith) within in
+                    subst (λ a. EdgeBefore a (get_or edges (e - 1) o)) (sym at)
+                    (order (d - 1) (e - 1) o (omega arith) (omega arith))
               ]
             ])
       ]
     ]
 
-module _ (roots : Roots) (list : List Elem) (once : HasEachOnce list) (x i : ℕ) (edges : List RootEdge) (so_far : HasEdgesUpTo roots list x i edges) where
+module _ (roots : Roots) (list : List Elem) (once : HasEachOnce list) (x i : ℕ) (edges : List RootEdge)
+    (so_far : HasEdgesUpTo roots list x i edges) where
   -- the reflection leads up to no vertex
   pub HasEdgesUpTo-none : ((y : ℕ) → IsEdgeOfRoot roots list x y i → ⊥) → HasEdgesUpTo roots list x (i + 1) edges
   HasEdgesUpTo-none none = record {
@@ -154,12 +176,15 @@ module _ (roots : Roots) (list : List Elem) (once : HasEachOnce list) (x i : ℕ
     each = λ e o h. IsFound-more roots list x i (get_or edges e o) (so_far.each e o h);
     all = λ w y j edge done. elim (IsDone-last x i w j done) [
       | inl earlier ↦ so_far.all w y j edge earlier
-      | inr last ↦ absurd (none y (subst (λ k. IsEdgeOfRoot roots list x y k) last.1 (subst (λ v. IsEdgeOfRoot roots list v y j) last.0 edge)))
+      | inr last ↦ absurd
+          (none y (subst (λ k. IsEdgeOfRoot roots list x y k) last.1
+          (subst (λ v. IsEdgeOfRoot roots list v y j) last.0 edge)))
     ];
   }
 
   -- it leads up to y, and the edge goes to its place
-  pub HasEdgesUpTo-more : (place y : ℕ) → IsEdgeOfRoot roots list x y i → IsPlace edges x y place → HasEdgesUpTo roots list x (i + 1) (insert edges place (root_edge x y i))
+  pub HasEdgesUpTo-more : (place y : ℕ) → IsEdgeOfRoot roots list x y i → IsPlace edges x y place →
+      HasEdgesUpTo roots list x (i + 1) (insert edges place (root_edge x y i))
   HasEdgesUpTo-more place y edge is =
       let within = is.within in
       let new : RootEdge = root_edge x y i in
@@ -172,7 +197,9 @@ module _ (roots : Roots) (list : List Elem) (once : HasEachOnce list) (x i : ℕ
         all = λ w z j other done. elim (IsDone-last x i w j done) [
           | inl earlier ↦ HasEdge-insert edges place w z new within (so_far.all w z j other earlier)
           | inr last ↦
-              let moved : IsEdgeOfRoot roots list x z i = subst (λ k. IsEdgeOfRoot roots list x z k) last.1 (subst (λ v. IsEdgeOfRoot roots list v z j) last.0 other) in
+              let moved : IsEdgeOfRoot roots list x z i =
+              subst (λ k. IsEdgeOfRoot roots list x z k) last.1
+              (subst (λ v. IsEdgeOfRoot roots list v z j) last.0 other) in
               let ends = root_target roots list once x y z i edge moved in
               subst (λ v. HasEdge (insert edges place new) v z) (sym last.0)
               (subst (λ v. HasEdge (insert edges place new) x v) ends (HasEdge-here edges place new within))
@@ -181,22 +208,26 @@ module _ (roots : Roots) (list : List Elem) (once : HasEachOnce list) (x i : ℕ
 
   -- the place behind the last edge that is not greater: none has the same ends
   pub IsPlace-found : (y place : ℕ) → IsEdgeOfRoot roots list x y i → place ≤ length edges
-      → ((e : ℕ) (o : RootEdge) → place ≤ e → e < length edges → ComesBefore x y (get_or edges e o).lower (get_or edges e o).upper)
+      → ((e : ℕ) (o : RootEdge) → place ≤ e → e < length edges →
+      ComesBefore x y (get_or edges e o).lower (get_or edges e o).upper)
       → ((e : ℕ) (o : RootEdge) → e + 1 ≡ place → ComesBefore x y (get_or edges e o).lower (get_or edges e o).upper → ⊥)
       → IsPlace edges x y place
   IsPlace-found y place edge within after last = record { within = within; before = before; after = after }
     where
-      apart : (e : ℕ) (o : RootEdge) → e < length edges → (get_or edges e o).lower ≡ x → (get_or edges e o).upper ≡ y → ⊥
+      apart : (e : ℕ) (o : RootEdge) → e < length edges → (get_or edges e o).lower ≡ x → (get_or edges e o).upper ≡ y →
+          ⊥
       apart e o h starts ends =
           let found = so_far.each e o h in
           let number : ℕ = (get_or edges e o).root in
           let moved : IsEdgeOfRoot roots list x y number =
-          subst (λ v. IsEdgeOfRoot roots list x v number) ends (subst (λ v. IsEdgeOfRoot roots list v (get_or edges e o).upper number) starts found.edge) in
+          subst (λ v. IsEdgeOfRoot roots list x v number) ends
+          (subst (λ v. IsEdgeOfRoot roots list v (get_or edges e o).upper number) starts found.edge) in
           let same = root_is_unique roots list x y number i moved edge in
           elim found.done [ inl lt ↦ omega arith | inr q ↦ omega (arith, q.1) ]
 
       -- the last one before the place is less, and so are those before it
-      at_last : (e : ℕ) (o : RootEdge) → e + 1 ≡ place → ComesBefore (get_or edges e o).lower (get_or edges e o).upper x y
+      at_last : (e : ℕ) (o : RootEdge) → e + 1 ≡ place →
+          ComesBefore (get_or edges e o).lower (get_or edges e o).upper x y
       at_last e o is =
           elim (three_ways (get_or edges e o).lower (get_or edges e o).upper x y) [
             | inl less ↦ less
@@ -216,7 +247,8 @@ module _ (roots : Roots) (list : List Elem) (once : HasEachOnce list) (x i : ℕ
           ]
 
 -- all roots at a vertex are done
-pub HasEdgesUpTo-row : (roots : Roots) (list : List Elem) (x i : ℕ) (edges : List RootEdge) → HasEdgesUpTo roots list x i edges → i ≡ length (positives roots)
+pub HasEdgesUpTo-row : (roots : Roots) (list : List Elem) (x i : ℕ) (edges : List RootEdge) →
+    HasEdgesUpTo roots list x i edges → i ≡ length (positives roots)
     → HasEdgesUpTo roots list (x + 1) 0 edges
 HasEdgesUpTo-row roots list x i edges so_far all_roots = record {
   few = let few = has_few_positives roots in omega (arith, so_far.few);

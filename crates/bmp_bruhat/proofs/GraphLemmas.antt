@@ -42,14 +42,16 @@ abbrev pub record_of : ℕ → ℕ → List ℕ → List Edge → Graph
 record_of k p ls es = record { rank = k; prime = p; lengths = ls; edges = es }
 
 -- what a graph is made of
-pub record HasParts (roots : Roots) (list : List Elem) (p : ℕ) (form : RootPair → Vector) (word lengths : List ℕ) (found : List RootEdge) (edges : List Edge) : Type 0 where
+pub record HasParts (roots : Roots) (list : List Elem) (p : ℕ) (form : RootPair → Vector) (word lengths : List ℕ)
+    (found : List RootEdge) (edges : List Edge) : Type 0 where
   pub interval : IsInterval (matrix_of roots) (positive_roots_of roots) word list
   pub some : 0 < length list
   pub measured : lengths ≡ map (element_length (positive_roots_of roots)) list
   pub all : HasEdgesUpTo roots list (length list) 0 found
   pub labels : AreLabeled roots p form (length found) found edges
 
-module _ {roots : Roots} {list : List Elem} {p : ℕ} {form : RootPair → Vector} {word lengths : List ℕ} {found : List RootEdge} {edges : List Edge}
+module _ {roots : Roots} {list : List Elem} {p : ℕ} {form : RootPair → Vector} {word lengths : List ℕ}
+    {found : List RootEdge} {edges : List Edge}
     (parts : HasParts roots list p form word lengths found edges) where
   abbrev pub made : Graph
   made = record { rank = (matrix_of roots).rank; prime = p; lengths = lengths; edges = edges }
@@ -66,13 +68,16 @@ module _ {roots : Roots} {list : List Elem} {p : ℕ} {form : RootPair → Vecto
   length_is : (x : ℕ) (e : Elem) → x < length list → length_at made x ≡ element_length positive (get_or list x e)
   length_is x e h = ap (λ ls. get_or ls x 0) parts.measured ∙ get_or-map (element_length positive) list x e 0 h
 
-  number_is : (number : Edge → ℕ) (e : ℕ) (d : Edge) → slice_get edges e ≡ Some d → get_or (map number edges) e 0 ≡ number d
-  number_is number e d at = get_or-map number edges e d 0 (slice_get_within edges e d at) ∙ ap number (get_or_from_slice_get edges e d d at)
+  number_is : (number : Edge → ℕ) (e : ℕ) (d : Edge) → slice_get edges e ≡ Some d →
+      get_or (map number edges) e 0 ≡ number d
+  number_is number e d at = get_or-map number edges e d 0 (slice_get_within edges e d at)
+      ∙ ap number (get_or_from_slice_get edges e d d at)
 
   form_is : (e : ℕ) (d : Edge) → slice_get edges e ≡ Some d → label made e ≡ coordinate_of d.label
   form_is e d at =
       ap (λ (cs : List ℕ). λ i. get_or cs i 0)
-      (get_or-map (λ (d : Edge). coordinates_of d.label) edges e d [] (slice_get_within edges e d at) ∙ ap (λ (d : Edge). coordinates_of d.label) (get_or_from_slice_get edges e d d at))
+      (get_or-map (λ (d : Edge). coordinates_of d.label) edges e d [] (slice_get_within edges e d at)
+      ∙ ap (λ (d : Edge). coordinates_of d.label) (get_or_from_slice_get edges e d d at))
 
   -- the edge at a place, as it was found and with its label
   record EdgeAt (e : ℕ) : Type 0 where
@@ -93,8 +98,10 @@ module _ {roots : Roots} {list : List Elem} {p : ℕ} {form : RootPair → Vecto
         edge = o.0;
         from_at = d.1;
         edge_at = o.1;
-        labeled = subst (λ z. IsLabeled roots p form d.0 z) (get_or_from_slice_get edges e o.0 o.0 o.1) (parts.labels.each e d.0 o.0 before d.1);
-        is_found = subst (λ z. IsFound roots list (length list) 0 z) (get_or_from_slice_get found e d.0 d.0 d.1) (parts.all.each e d.0 before);
+        labeled = subst (λ z. IsLabeled roots p form d.0 z) (get_or_from_slice_get edges e o.0 o.0 o.1)
+            (parts.labels.each e d.0 o.0 before d.1);
+        is_found = subst (λ z. IsFound roots list (length list) 0 z) (get_or_from_slice_get found e d.0 d.0 d.1)
+            (parts.all.each e d.0 before);
       }
 
   lower_is : (e : ℕ) (a : EdgeAt e) → lower made e ≡ a.from.lower
@@ -103,12 +110,16 @@ module _ {roots : Roots} {list : List Elem} {p : ℕ} {form : RootPair → Vecto
   upper_is : (e : ℕ) (a : EdgeAt e) → upper made e ≡ a.from.upper
   upper_is e a = number_is (λ (d : Edge). d.upper) e a.edge a.edge_at ∙ a.labeled.upper
 
-  ends_of : (x y : ℕ) (q : RootPair) → IsEdge m positive list x y q → (x < length lengths) × (y < length lengths) × (length_at made x < length_at made y)
+  ends_of : (x y : ℕ) (q : RootPair) → IsEdge m positive list x y q → (x < length lengths) × (y < length lengths) ×
+      (length_at made x < length_at made y)
   ends_of x y q edge =
       let low = slice_get_within list x edge.low edge.low_is in
       let high = slice_get_within list y edge.high edge.high_is in
-      let low_length = length_is x edge.low low ∙ ap (element_length positive) (get_or_from_slice_get list x edge.low edge.low edge.low_is) in
-      let high_length = length_is y edge.high high ∙ ap (element_length positive) (get_or_from_slice_get list y edge.high edge.high edge.high_is) in
+      let low_length = length_is x edge.low low
+      ∙ ap (element_length positive) (get_or_from_slice_get list x edge.low edge.low edge.low_is) in
+      let high_length =
+      length_is y edge.high high
+      ∙ ap (element_length positive) (get_or_from_slice_get list y edge.high edge.high edge.high_is) in
       let longer = edge.longer in
       let vertices = count in
       (omega arith, omega arith, omega arith)
@@ -123,7 +134,8 @@ module _ {roots : Roots} {list : List Elem} {p : ℕ} {form : RootPair → Vecto
         omega (arith, length_is w first.0 (omega arith), length_is x first.0 (omega arith));
     ends = λ e h.
         let a = edge_of e h in
-        rw (lower_is e a, upper_is e a) (ends_of a.from.lower a.from.upper (pair_of a.is_found.edge.pair) a.is_found.edge.edge);
+        rw (lower_is e a, upper_is e a)
+        (ends_of a.from.lower a.from.upper (pair_of a.is_found.edge.pair) a.is_found.edge.edge);
     order = λ e h d next.
         let before : d < length edges = omega arith in
         let a = edge_of e h in
@@ -131,12 +143,16 @@ module _ {roots : Roots} {list : List Elem} {p : ℕ} {form : RootPair → Vecto
         let inside : e < length found = omega (arith, parts.labels.as_long) in
         rw (lower_is e a, upper_is e a, lower_is d b, upper_is d b)
         (let order = parts.all.order d e a.from (omega arith) inside in
-        subst (λ (z : RootEdge). ComesBefore z.lower z.upper a.from.lower a.from.upper) (get_or_from_slice_get found d b.from a.from b.from_at)
-        (subst (λ (z : RootEdge). ComesBefore (get_or found d a.from).lower (get_or found d a.from).upper z.lower z.upper) (get_or_from_slice_get found e a.from a.from a.from_at) order));
+        subst (λ (z : RootEdge). ComesBefore z.lower z.upper a.from.lower a.from.upper)
+        (get_or_from_slice_get found d b.from a.from b.from_at)
+        (subst (λ (z : RootEdge). ComesBefore (get_or found d a.from).lower (get_or found d a.from).upper z.lower
+        z.upper) (get_or_from_slice_get found e a.from a.from a.from_at) order));
     labels = λ e h.
         let a = edge_of e h in
-        let form = a.labeled.label a.is_found.edge.pair a.is_found.edge.pair_is in
-        (number_is (λ (d : Edge). rank_of d.label) e a.edge a.edge_at ∙ form.rank, number_is (λ (d : Edge). prime_of d.label) e a.edge a.edge_at ∙ form.prime);
+        let form = a.labeled.label a.is_found.edge.pair a.is_found.edge.pair_is in (
+          number_is (λ (d : Edge). rank_of d.label) e a.edge a.edge_at ∙ form.rank,
+          number_is (λ (d : Edge). prime_of d.label) e a.edge a.edge_at ∙ form.prime,
+        );
   }
 
   pub is_bruhat : IsBruhatGraph roots list p form made
@@ -162,7 +178,8 @@ module _ {roots : Roots} {list : List Elem} {p : ℕ} {form : RootPair → Vecto
           q,
           subst (λ v. IsEdge m positive list v (upper made e) q) (sym (lower_is e a))
               (subst (λ v. IsEdge m positive list a.from.lower v q) (sym (upper_is e a)) a.is_found.edge.edge),
-          subst (λ a. IsLabelOf p (matrix_of roots).rank (form q) a) (sym (form_is e a.edge a.edge_at)) labeled.residues,
+          subst (λ a. IsLabelOf p (matrix_of roots).rank (form q) a) (sym (form_is e a.edge a.edge_at))
+              labeled.residues,
         );
   }
 
@@ -176,9 +193,12 @@ module _ {roots : Roots} {list : List Elem} {p : ℕ} {form : RootPair → Vecto
   pub bruhat_of_parts : (k : ℕ) (ls : List ℕ) (es : List Edge) → k ≡ (matrix_of roots).rank → ls ≡ lengths → es ≡ edges
       → (g : Graph) → g ≡ record_of k p ls es → IsBruhatGraph roots list p form g
   bruhat_of_parts k ls es rank_is lengths_are edges_are g is =
-      subst (λ h. IsBruhatGraph roots list p form h) (sym (is ∙ made_of k ls es rank_is lengths_are edges_are)) is_bruhat
+      subst (λ h. IsBruhatGraph roots list p form h) (sym (is ∙ made_of k ls es rank_is lengths_are edges_are))
+      is_bruhat
 
-  pub no_fault_of_parts : (k : ℕ) (ls : List ℕ) (es : List Edge) → k ≡ (matrix_of roots).rank → ls ≡ lengths → es ≡ edges
+  pub no_fault_of_parts : (k : ℕ) (ls : List ℕ) (es : List Edge) → k ≡ (matrix_of roots).rank → ls ≡ lengths →
+      es ≡ edges
       → (fault : GraphFault) → BreaksFirst (record_of k p ls es) fault → (fault ≡ Memory → ⊥) → ⊥
   no_fault_of_parts k ls es rank_is lengths_are edges_are fault breaks other =
-      only_memory made fault keeps_rules (subst (λ h. BreaksFirst h fault) (made_of k ls es rank_is lengths_are edges_are) breaks) other
+      only_memory made fault keeps_rules
+      (subst (λ h. BreaksFirst h fault) (made_of k ls es rank_is lengths_are edges_are) breaks) other

@@ -9,7 +9,8 @@ use Rattle.bmp_weyl.proofs.OneLength.{one_element_length}
 use Rattle.bmp_bruhat.specs.Edges.{IsEdge}
 use Rattle.bmp_bruhat.proofs.EdgeLemmas.{edge_is_unique}
 
-module _ (m : CartanMatrix) (roots others : List Vector) (system : IsRootSystem m roots) (positive : ArePositiveRoots m others) where
+module _ (m : CartanMatrix) (roots others : List Vector) (system : IsRootSystem m roots)
+    (positive : ArePositiveRoots m others) where
   pub lengths_one : (e : Elem) → element_length roots e ≡ element_length others e
   lengths_one e = one_element_length m roots others system.positive positive e
 
@@ -27,7 +28,9 @@ module _ (m : CartanMatrix) (roots others : List Vector) (system : IsRootSystem 
   }
 
   -- edges with the same ends have one root
-  pub one_root_at : (list : List Elem) (x y z w : ℕ) (q p : RootPair) → x ≡ z → y ≡ w → IsEdge m roots list x y q → IsEdge m others list z w p → q ≡ p
+  pub one_root_at : (list : List Elem) (x y z w : ℕ) (q p : RootPair) → x ≡ z → y ≡ w → IsEdge m roots list x y q →
+      IsEdge m others list z w p → q ≡ p
   one_root_at list x y z w q p lower upper a b =
       edge_is_unique m others (record { form = system.form; finite = system.finite; positive = positive }) list z w q p
-      (subst (λ v. IsEdge m others list v w q) lower (subst (λ v. IsEdge m others list x v q) upper (other_edge list x y q a))) b
+      (subst (λ v. IsEdge m others list v w q) lower
+      (subst (λ v. IsEdge m others list x v q) upper (other_edge list x y q a))) b

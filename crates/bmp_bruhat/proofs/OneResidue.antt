@@ -17,4 +17,5 @@ no_multiple p a b (negsuc n) la lb e =
 -- the residue of an integer is one
 pub one_residue : (p : ℕ) (z : ℤ) (a b : ℕ) → IsResidue p z a → IsResidue p z b → a ≡ b
 one_residue p z a b (la, (s, first)) (lb, (t, second)) =
-    no_multiple p a b (t -ℤ s) la lb (let apart : pos p *ℤ (t -ℤ s) ≡ pos p *ℤ t -ℤ pos p *ℤ s = mul-sub (pos p) t s in omega (arith, ints, apart, first, second))
+    no_multiple p a b (t -ℤ s) la lb (let apart : pos p *ℤ (t -ℤ s) ≡ pos p *ℤ t -ℤ pos p *ℤ s = mul-sub (pos p) t s in
+    omega (arith, ints, apart, first, second))

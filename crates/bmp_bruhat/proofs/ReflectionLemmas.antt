@@ -14,24 +14,30 @@ use Rattle.bmp_bruhat.proofs.EdgeLemmas.{some_at}
 
 -- one reflection more
 pub HasReflections-more : (roots : Roots) (n : ℕ) (list new : List Elem) (r : Elem) → HasReflections roots n list
-    → ((d : Pair) → IsReflection (matrix_of roots) (pair_of (get_or (positives roots) n d)) r) → new ≡ list ++ r ∷ [] → HasReflections roots (n + 1) new
+    → ((d : Pair) → IsReflection (matrix_of roots) (pair_of (get_or (positives roots) n d)) r) → new ≡ list ++ r ∷ [] →
+    HasReflections roots (n + 1) new
 HasReflections-more roots n list new r so_far here is =
     subst (λ rs. HasReflections roots (n + 1) rs) (sym is) (record {
       as_long = length-append list (r ∷ []) ∙ ap (λ k. k + 1) so_far.as_long;
       each = λ i pair o h at.
           elim (cases_eq i n) [
             | inl same ↦
-                let there : slice_get (positives roots) n ≡ Some pair = subst (λ k. slice_get (positives roots) k ≡ Some pair) same at in
-                subst (λ z. IsReflection (matrix_of roots) (pair_of pair) z) (sym (get_or_push list r o i (so_far.as_long ∙ sym same)))
-                (subst (λ q. IsReflection (matrix_of roots) (pair_of q) r) (get_or_from_slice_get (positives roots) n pair pair there) (here pair))
+                let there : slice_get (positives roots) n ≡ Some pair =
+                subst (λ k. slice_get (positives roots) k ≡ Some pair) same at in
+                subst (λ z. IsReflection (matrix_of roots) (pair_of pair) z)
+                (sym (get_or_push list r o i (so_far.as_long ∙ sym same)))
+                (subst (λ q. IsReflection (matrix_of roots) (pair_of q) r)
+                (get_or_from_slice_get (positives roots) n pair pair there) (here pair))
             | inr apart ↦
-                subst (λ z. IsReflection (matrix_of roots) (pair_of pair) z) (sym (get_or_append_left list (r ∷ []) o i (omega (arith, so_far.as_long))))
+                subst (λ z. IsReflection (matrix_of roots) (pair_of pair) z)
+                (sym (get_or_append_left list (r ∷ []) o i (omega (arith, so_far.as_long))))
                 (so_far.each i pair o (omega arith) at)
           ];
     })
 
 -- one length more
-pub lengths_more : (f : Elem → ℕ) (list : List Elem) (x n : ℕ) (lengths new : List ℕ) → lengths ≡ map f (take x list) → x < length list
+pub lengths_more : (f : Elem → ℕ) (list : List Elem) (x n : ℕ) (lengths new : List ℕ) → lengths ≡ map f (take x list) →
+    x < length list
     → ((d : Elem) → n ≡ f (get_or list x d)) → new ≡ lengths ++ n ∷ [] → new ≡ map f (take (x + 1) list)
 lengths_more f list x n lengths new so_far within here is =
     let d = (some_at list x within).0 in

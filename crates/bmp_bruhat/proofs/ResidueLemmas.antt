@@ -28,7 +28,8 @@ pub zero_residue : (p : ℕ) (z : ℤ) → 0 < p → Divides p z → IsResidue p
 zero_residue p z some (t, e) = (some, (t, omega (arith, ints, e)))
 
 -- forms are made of the root alone
-pub form_of_root : (m : CartanMatrix) (weight : Bool) (q p : RootPair) → q.root ≡ p.root → form_in m weight q ≡ form_in m weight p
+pub form_of_root : (m : CartanMatrix) (weight : Bool) (q p : RootPair) → q.root ≡ p.root →
+    form_in m weight q ≡ form_in m weight p
 form_of_root m true q p same = ap (λ (b : Vector). form_in m true (record { root = b; coroot = b })) same
 form_of_root m false q p same = same
 
@@ -38,7 +39,8 @@ pub record HasResidues (p : ℕ) (b : Vector) (n : ℕ) (list : List ℕ) : Type
   pub residue : (j : ℕ) → j < n → IsResidue p (b j) (get_or list j 0)
   pub past : (j : ℕ) → n ≤ j → get_or list j 0 ≡ 0
 
-pub HasResidues-more : (p : ℕ) (b : Vector) (n v : ℕ) (list : List ℕ) → HasResidues p b n list → n < 6 → IsResidue p (b n) v
+pub HasResidues-more : (p : ℕ) (b : Vector) (n v : ℕ) (list : List ℕ) → HasResidues p b n list → n < 6 →
+    IsResidue p (b n) v
     → HasResidues p b (n + 1) (set list n v)
 HasResidues-more p b n v list so_far within is =
     let inside : n < length list = omega (arith, so_far.six) in
@@ -46,7 +48,8 @@ HasResidues-more p b n v list so_far within is =
     record {
       six = length-set list n v ∙ so_far.six;
       residue = below_more (λ j. IsResidue p (b j) (get_or (set list n v) j 0)) n
-          (λ j h. subst (λ k. IsResidue p (b j) k) (sym (get_or-set_other list n j v 0 (omega arith))) (so_far.residue j h))
+          (λ j h. subst (λ k. IsResidue p (b j) k) (sym (get_or-set_other list n j v 0 (omega arith)))
+          (so_far.residue j h))
           (subst (λ k. IsResidue p (b n) k) (sym here) is);
       past = λ j h. get_or-set_other list n j v 0 (omega arith) ∙ so_far.past j (omega arith);
     }

@@ -19,10 +19,12 @@ use Rattle.bmp_bruhat.proofs.EdgeLemmas.{some_at, edge_of_root, edge_is_unique, 
 weakly_before : (x y v w : ℕ) → ComesBefore x y v w → (x < v) ⊎ ((x ≡ v) × (y ≤ w))
 weakly_before x y v w h = elim h [ inl less ↦ inl less | inr level ↦ inr (level.0, omega (arith, level.1)) ]
 
-module _ {roots : Roots} {list : List Elem} {found : List RootEdge} (all : HasEdgesUpTo roots list (length list) 0 found) where
+module _ {roots : Roots} {list : List Elem} {found : List RootEdge}
+    (all : HasEdgesUpTo roots list (length list) 0 found) where
   found_at : (e : ℕ) (d : RootEdge) → slice_get found e ≡ Some d → IsFound roots list (length list) 0 d
   found_at e d at =
-      subst (λ z. IsFound roots list (length list) 0 z) (get_or_from_slice_get found e d d at) (all.each e d (slice_get_within found e d at))
+      subst (λ z. IsFound roots list (length list) 0 z) (get_or_from_slice_get found e d d at)
+      (all.each e d (slice_get_within found e d at))
 
   module _ {p : ℕ} {form : RootPair → Vector} {x y : ℕ} (zero : IsFirstZero roots p form found x y) where
     here : HasZeroLabel (matrix_of roots) (positive_roots_of roots) list p form x y
@@ -30,20 +32,26 @@ module _ {roots : Roots} {list : List Elem} {found : List RootEdge} (all : HasEd
         let is = found_at zero.place zero.edge zero.edge_is in
         record {
           pair = pair_of is.edge.pair;
-          edge = subst (λ v. IsEdge (matrix_of roots) (positive_roots_of roots) list v y (pair_of is.edge.pair)) (sym zero.lower)
-              (subst (λ v. IsEdge (matrix_of roots) (positive_roots_of roots) list zero.edge.lower v (pair_of is.edge.pair)) (sym zero.upper) is.edge.edge);
+          edge = subst (λ v. IsEdge (matrix_of roots) (positive_roots_of roots) list v y (pair_of is.edge.pair))
+              (sym zero.lower)
+              (subst (λ v. IsEdge (matrix_of roots) (positive_roots_of roots) list zero.edge.lower v
+              (pair_of is.edge.pair)) (sym zero.upper) is.edge.edge);
           zero = zero.zero is.edge.pair is.edge.pair_is;
         }
 
     -- an edge that was found before it has no zero form
-    not_before : (e : ℕ) (d : RootEdge) → slice_get found e ≡ Some d → (h : HasZeroLabel (matrix_of roots) (positive_roots_of roots) list p form d.lower d.upper) → e < zero.place → ⊥
+    not_before : (e : ℕ) (d : RootEdge) → slice_get found e ≡ Some d →
+        (h : HasZeroLabel (matrix_of roots) (positive_roots_of roots) list p form d.lower d.upper) → e < zero.place → ⊥
     not_before e d at h less =
         let is = found_at e d at in
         let same : h.pair ≡ pair_of is.edge.pair =
-        edge_is_unique (matrix_of roots) (positive_roots_of roots) (root_system roots) list d.lower d.upper h.pair (pair_of is.edge.pair) h.edge is.edge.edge in
-        zero.before e d is.edge.pair less at is.edge.pair_is (subst (λ (q : RootPair). IsZeroForm p (matrix_of roots).rank (form q)) same h.zero)
+        edge_is_unique (matrix_of roots) (positive_roots_of roots) (root_system roots) list d.lower d.upper h.pair
+        (pair_of is.edge.pair) h.edge is.edge.edge in
+        zero.before e d is.edge.pair less at is.edge.pair_is
+        (subst (λ (q : RootPair). IsZeroForm p (matrix_of roots).rank (form q)) same h.zero)
 
-    first : (v w : ℕ) → HasZeroLabel (matrix_of roots) (positive_roots_of roots) list p form v w → (x < v) ⊎ ((x ≡ v) × (y ≤ w))
+    first : (v w : ℕ) → HasZeroLabel (matrix_of roots) (positive_roots_of roots) list p form v w →
+        (x < v) ⊎ ((x ≡ v) × (y ≤ w))
     first v w h =
         let numbered = edge_of_root roots list v w h.pair h.edge in
         let has = all.all v w numbered.0 numbered.1 (inl (slice_get_within list v h.edge.low h.edge.low_is)) in
@@ -62,16 +70,24 @@ module _ {roots : Roots} {list : List Elem} {found : List RootEdge} (all : HasEd
           | inr more ↦ elim (cases_eq has.place zero.place) [
             | inl level ↦
                 let one : zero.edge ≡ d =
-                sym (get_or_from_slice_get found zero.place zero.edge d zero.edge_is) ∙ ap (λ k. get_or found k d) (sym level) ∙ same in
-                inr (first_lower ∙ ap (λ (z : RootEdge). z.lower) one ∙ low, omega (arith, first_upper, ap (λ (z : RootEdge). z.upper) one, high))
+                sym (get_or_from_slice_get found zero.place zero.edge d zero.edge_is)
+                ∙ ap (λ k. get_or found k d) (sym level) ∙ same in
+                inr (
+                  first_lower ∙ ap (λ (z : RootEdge). z.lower) one ∙ low,
+                  omega (arith, first_upper, ap (λ (z : RootEdge). z.upper) one, high),
+                )
             | inr apart ↦
                 let order = all.order zero.place has.place d (omega arith) has.within in
-                let at : get_or found zero.place d ≡ zero.edge = get_or_from_slice_get found zero.place zero.edge d zero.edge_is in
+                let at : get_or found zero.place d ≡ zero.edge =
+                get_or_from_slice_get found zero.place zero.edge d zero.edge_is in
                 weakly_before x y v w
                 (subst (λ k. ComesBefore k y v w) (ap (λ (z : RootEdge). z.lower) at ∙ sym first_lower)
-                (subst (λ k. ComesBefore (get_or found zero.place d).lower k v w) (ap (λ (z : RootEdge). z.upper) at ∙ sym first_upper)
-                (subst (λ k. ComesBefore (get_or found zero.place d).lower (get_or found zero.place d).upper k w) (has.lower d)
-                (subst (λ k. ComesBefore (get_or found zero.place d).lower (get_or found zero.place d).upper (get_or found has.place d).lower k) (has.upper d) order))))
+                (subst (λ k. ComesBefore (get_or found zero.place d).lower k v w)
+                (ap (λ (z : RootEdge). z.upper) at ∙ sym first_upper)
+                (subst (λ k. ComesBefore (get_or found zero.place d).lower (get_or found zero.place d).upper k w)
+                (has.lower d)
+                (subst (λ k. ComesBefore (get_or found zero.place d).lower (get_or found zero.place d).upper
+                (get_or found has.place d).lower k) (has.upper d) order))))
           ]
         ]
 
@@ -85,6 +101,7 @@ module _ {roots : Roots} {list : List Elem} {found : List RootEdge} (all : HasEd
       slice_get_within (positives roots) (get_or found e o).root is.edge.pair is.edge.pair_is
 
 -- no root is zero, so that by the simple roots memory alone can be wanting
-pub no_zero_root : (roots : Roots) (list : List Elem) (p x y : ℕ) → 2 ≤ p → IsError roots list p root_form (ZeroLabel x y) → ⊥
+pub no_zero_root : (roots : Roots) (list : List Elem) (p x y : ℕ) → 2 ≤ p →
+    IsError roots list p root_form (ZeroLabel x y) → ⊥
 no_zero_root roots list p x y big first =
     label_is_not_zero (matrix_of roots) roots.form first.here.pair first.here.edge.pair p big first.here.zero

@@ -60,13 +60,15 @@ pub record IsLabeled (roots : Roots) (p : ℕ) (form : RootPair → Vector) (d :
   pub label : (pair : Pair) → slice_get (positives roots) d.root ≡ Some pair
       → IsFormLabel p (matrix_of roots).rank (form (pair_of pair)) o.label
 
-pub record AreLabeled (roots : Roots) (p : ℕ) (form : RootPair → Vector) (n : ℕ) (found : List RootEdge) (edges : List Edge)
+pub record AreLabeled (roots : Roots) (p : ℕ) (form : RootPair → Vector) (n : ℕ) (found : List RootEdge)
+    (edges : List Edge)
     : Type 0 where
   pub as_long : length edges ≡ n
   pub each : (e : ℕ) (d : RootEdge) (o : Edge) → e < n → slice_get found e ≡ Some d
       → IsLabeled roots p form d (slice_index_or edges e o)
 
-pub record IsFirstZero (roots : Roots) (p : ℕ) (form : RootPair → Vector) (found : List RootEdge) (x y : ℕ) : Type 0 where
+pub record IsFirstZero (roots : Roots) (p : ℕ) (form : RootPair → Vector) (found : List RootEdge) (x y : ℕ) :
+    Type 0 where
   pub place : ℕ
   pub edge : RootEdge
   pub edge_is : slice_get found place ≡ Some edge

@@ -6,7 +6,8 @@
 --                                      of q the linear form that belongs to q, modulo p
 --   IsBruhatGraph roots list p form g  the same for a `Roots`
 --   HasZeroLabel m roots list p form x y      the form of an edge from x up to y is zero modulo p
---   IsFirstZeroLabel m roots list p form x y  x and y are the first such vertices, by the lower and then by the upper one
+--   IsFirstZeroLabel m roots list p form x y  x and y are the first such vertices, by the lower and then by the upper
+--                                             one
 --   IsEdgeOfRoot roots list x y i      the edge from x up to y is that of the positive root number i
 use Rattle.std.specs.Prelude.{◌≡◌, ℕ, ◌<◌, ◌≤◌, ◌⊎◌, List, map, slice_get, Some}
 use Rattle.bmp_roots.specs.RootPairs.{CartanMatrix, Vector, RootPair, across, IsRootPair, IsPositive}
@@ -39,12 +40,14 @@ pub record IsEdge (m : CartanMatrix) (roots : List Vector) (list : List Elem) (x
   pub reflected : IsReflectedTo m q low high
   pub longer : element_length roots low < element_length roots high
 
-pub record IsGraphOf (m : CartanMatrix) (roots : List Vector) (list : List Elem) (p : ℕ) (form : RootPair → Vector) (g : Graph)
+pub record IsGraphOf (m : CartanMatrix) (roots : List Vector) (list : List Elem) (p : ℕ) (form : RootPair → Vector)
+    (g : Graph)
     : Type 0 where
   pub rank : g.rank ≡ m.rank
   pub prime : g.prime ≡ p
   pub lengths : g.lengths ≡ map (element_length roots) list
-  -- each edge of the definition is an edge of g, and each edge of g is one of the definition, with its form as the label
+  -- each edge of the definition is an edge of g, and each edge of g is one of the definition, with its form as the
+  -- label
   pub all : (x y : ℕ) (q : RootPair) → IsEdge m roots list x y q
       → (e : ℕ) × (e < edge_count g) × (lower g e ≡ x) × (upper g e ≡ y)
   pub each : (e : ℕ) → e < edge_count g → (q : RootPair) × IsEdge m roots list (lower g e) (upper g e) q
@@ -59,7 +62,8 @@ pub record HasZeroLabel (m : CartanMatrix) (roots : List Vector) (list : List El
   pub edge : IsEdge m roots list x y pair
   pub zero : IsZeroForm p m.rank (form pair)
 
-pub record IsFirstZeroLabel (m : CartanMatrix) (roots : List Vector) (list : List Elem) (p : ℕ) (form : RootPair → Vector)
+pub record IsFirstZeroLabel (m : CartanMatrix) (roots : List Vector) (list : List Elem) (p : ℕ)
+    (form : RootPair → Vector)
     (x y : ℕ) : Type 0 where
   pub here : HasZeroLabel m roots list p form x y
   pub first : (v w : ℕ) → HasZeroLabel m roots list p form v w → (x < v) ⊎ ((x ≡ v) × (y ≤ w))

@@ -1,7 +1,9 @@
 -- The laws of Bruhat moment graphs, as statements.
---   EdgeIsUnique         two vertices have at most one edge: one root pair whose reflection leads from the one to the other
+--   EdgeIsUnique         two vertices have at most one edge: one root pair whose reflection leads from the one to the
+--                        other
 --   LabelIsNotZero       no root is zero modulo a number from 2 on
---   ReflectionIsEdge     where a reflection leads from a vertex to a vertex, an edge joins them, one way and not the other
+--   ReflectionIsEdge     where a reflection leads from a vertex to a vertex, an edge joins them, one way and not the
+--                        other
 --   GraphIsOne           the vertices have one graph, whatever the order of the positive roots
 use Rattle.std.specs.Prelude.{◌≡◌, ℕ, ◌≤◌, ◌⊎◌, List, slice_get, Some}
 use Rattle.bmp_roots.specs.RootPairs.{CartanMatrix, Vector, RootPair, IsRootPair, IsPositive, HasCartanForm}
@@ -13,7 +15,8 @@ use Rattle.bmp_bruhat.specs.Labels.{root_form, IsZeroForm}
 use Rattle.bmp_bruhat.specs.Edges.{IsReflectedTo, IsEdge, IsGraphOf}
 
 abbrev pub EdgeIsUnique : Type 0
-EdgeIsUnique = (m : CartanMatrix) (roots : List Vector) → IsRootSystem m roots → (list : List Elem) (x y : ℕ) (q p : RootPair)
+EdgeIsUnique = (m : CartanMatrix) (roots : List Vector) → IsRootSystem m roots →
+    (list : List Elem) (x y : ℕ) (q p : RootPair)
     → IsEdge m roots list x y q → IsEdge m roots list x y p → q ≡ p
 
 abbrev pub LabelIsNotZero : Type 0

@@ -35,11 +35,11 @@ fn lengths_of(alloc: Global, interval: &Interval) -> Result<Vec<u32>, AllocError
     Ok(lengths)
 }
 
-/// The Bruhat moment graph of an interval, with the linear forms of the roots modulo a prime as labels: by the simple roots,
-/// or by the fundamental weights where `weight` holds.
+/// The Bruhat moment graph of an interval, with the linear forms of the roots modulo a prime as labels: by the simple
+/// roots, or by the fundamental weights where `weight` holds.
 ///
-/// Edges are numbered by lower and then by upper end. By the fundamental weights a form may be zero modulo the prime; then
-/// there is no graph, and the answer is the first such edge.
+/// Edges are numbered by lower and then by upper end. By the fundamental weights a form may be zero modulo the prime;
+/// then there is no graph, and the answer is the first such edge.
 pub fn graph_in(
     alloc: Global,
     interval: &Interval,
@@ -66,8 +66,8 @@ pub fn graph_in(
     }
 }
 
-/// The Bruhat moment graph of an interval, with the roots modulo a prime as labels. That no root is zero modulo the prime
-/// needs only that it is 2 or more.
+/// The Bruhat moment graph of an interval, with the roots modulo a prime as labels. That no root is zero modulo the
+/// prime needs only that it is 2 or more.
 pub fn graph_of(alloc: Global, interval: &Interval, prime: u8) -> Result<MomentGraph, AllocError>
     requires { 2 ≤ prime }
     ensures graph { IfOk result IsGraph }

@@ -21,7 +21,8 @@ pub fn labeled(
     weight: bool,
 ) -> Result<Vec<Edge>, BruhatError>
     requires prime { 2 ≤ prime }
-    requires found { HasEdgesUpTo (system_of interval.now) (vertices_of interval.now) (length (vertices_of interval.now)) 0
+    requires found { HasEdgesUpTo (system_of interval.now) (vertices_of interval.now)
+        (length (vertices_of interval.now)) 0
         found.now }
     ensures ok { IfOk result (λ edges. AreLabeled (system_of interval.now) prime
         (form_in (matrix_of (system_of interval.now)) weight) (length found.now) found.now edges.items) }

@@ -53,9 +53,11 @@ kept_whole (b ∷ choices) [] h = refl
 kept_whole (true ∷ choices) (k ∷ u) h = ap (λ (w : List ℕ). k ∷ w) (kept_whole choices u (omega (arith, h)))
 kept_whole (false ∷ choices) (k ∷ u) h = absurd (omega (arith, h, length-kept choices u))
 
-module _ (m : CartanMatrix) (roots : List Vector) (system : IsRootSystem m roots) (word : List ℕ) (letters : IsWord m word) where
+module _ (m : CartanMatrix) (roots : List Vector) (system : IsRootSystem m roots) (word : List ℕ)
+    (letters : IsWord m word) where
   -- a vertex of a reduced word is its product, or shorter
-  pub only_longest : IsReduced m roots word → (e : Elem) → IsVertex m word e → IsProduct m word e ⊎ (element_length roots e < length word)
+  pub only_longest : IsReduced m roots word → (e : Elem) → IsVertex m word e → IsProduct m word e ⊎
+      (element_length roots e < length word)
   only_longest reduced e v =
       elim (cases_eq (length (kept v.choices word)) (length word)) [
         | inl all ↦ inl (subst (λ (u : List ℕ). IsProduct m u e) (kept_whole v.choices word all) v.product)
@@ -70,7 +72,9 @@ module _ (m : CartanMatrix) (roots : List Vector) (system : IsRootSystem m roots
   -- an element as long as the identity is the identity
   pub shortest : (u : List ℕ) (e : Elem) → IsProduct m u e → element_length roots e ≡ 0 → IsProduct m [] e
   shortest u e product none =
-      let same : acts m u ≡ acts m [] = length_zero m roots system u product.letters (sym (element_length-product m roots system u e product) ∙ none) in
+      let same : acts m u ≡ acts m [] =
+      length_zero m roots system u product.letters (sym (element_length-product m roots system u e product)
+      ∙ none) in
       record {
         rank = product.rank;
         letters = All-nil (λ k. k < m.rank);
@@ -79,10 +83,12 @@ module _ (m : CartanMatrix) (roots : List Vector) (system : IsRootSystem m roots
       }
 
   module _ (list : List Elem) (vertices : HasVertices m word list)
-      (rising : (x y : ℕ) (d : Elem) → x ≤ y → y < length list → element_length roots (get_or list x d) ≤ element_length roots (get_or list y d)) where
+      (rising : (x y : ℕ) (d : Elem) → x ≤ y → y < length list →
+      element_length roots (get_or list x d) ≤ element_length roots (get_or list y d)) where
     pub bottom_is : (d : Elem) → IsProduct m [] (get_or list 0 d)
     bottom_is d =
-        let r : (e : Elem) × Member e list × IsProduct m (kept (none_chosen word) word) e = vertices.all (none_chosen word) (length-none_chosen word) in
+        let r : (e : Elem) × Member e list × IsProduct m (kept (none_chosen word) word) e =
+        vertices.all (none_chosen word) (length-none_chosen word) in
         let product : IsProduct m [] r.0 = subst (λ (u : List ℕ). IsProduct m u r.0) (kept_none word) r.2 in
         let place : (i : ℕ) × (i < length list) × ((c : Elem) → get_or list i c ≡ r.0) = place_of r.0 list r.1 in
         let inside : 0 < length list = omega (arith, place.1) in
@@ -97,12 +103,14 @@ module _ (m : CartanMatrix) (roots : List Vector) (system : IsRootSystem m roots
 
     pub top_is : IsReduced m roots word → (d : Elem) → IsProduct m word (get_or list (length list - 1) d)
     top_is reduced d =
-        let r : (e : Elem) × Member e list × IsProduct m (kept (all_chosen word) word) e = vertices.all (all_chosen word) (length-all_chosen word) in
+        let r : (e : Elem) × Member e list × IsProduct m (kept (all_chosen word) word) e =
+        vertices.all (all_chosen word) (length-all_chosen word) in
         let product : IsProduct m word r.0 = subst (λ (u : List ℕ). IsProduct m u r.0) (kept_all word) r.2 in
         let place : (i : ℕ) × (i < length list) × ((c : Elem) → get_or list i c ≡ r.0) = place_of r.0 list r.1 in
         let last : ℕ = length list - 1 in
         let inside : last < length list = omega (arith, place.1) in
-        elim (only_longest reduced (get_or list last d) (vertices.each (get_or list last d) (member_at list last d inside))) [
+        elim (only_longest reduced (get_or list last d)
+        (vertices.each (get_or list last d) (member_at list last d inside))) [
           | inl whole ↦ whole
           | inr shorter ↦ absurd (omega (
             arith,
@@ -115,7 +123,8 @@ module _ (m : CartanMatrix) (roots : List Vector) (system : IsRootSystem m roots
         ]
 
 -- ---- what is not false of the vertices of a word
-some_choices : (n : ℕ) (P : List Bool → Type 0) → ((choices : List Bool) → length choices ≡ n → Decided (P choices)) → Decided ((choices : List Bool) × (length choices ≡ n) × P choices)
+some_choices : (n : ℕ) (P : List Bool → Type 0) → ((choices : List Bool) → length choices ≡ n → Decided (P choices)) →
+    Decided ((choices : List Bool) × (length choices ≡ n) × P choices)
 some_choices zero P each =
     elim (each [] (omega arith)) [
       | inl p ↦ inl ([], omega arith, p)
@@ -128,10 +137,12 @@ some_choices zero P each =
 some_choices (suc n) P each =
     elim (some_choices n (λ choices. P (true ∷ choices)) (λ choices long. each (true ∷ choices) (omega (arith, long)))) [
       | inl r ↦ inl (true ∷ r.0, omega (arith, r.1), r.2)
-      | inr no_true ↦ elim (some_choices n (λ choices. P (false ∷ choices)) (λ choices long. each (false ∷ choices) (omega (arith, long)))) [
-        | inl r ↦ inl (false ∷ r.0, omega (arith, r.1), r.2)
-        | inr no_false ↦ inr (λ r. neither r.0 r.1 r.2 no_true no_false)
-      ]
+      | inr no_true ↦ elim
+          (some_choices n (λ choices. P (false ∷ choices))
+          (λ choices long. each (false ∷ choices) (omega (arith, long)))) [
+            | inl r ↦ inl (false ∷ r.0, omega (arith, r.1), r.2)
+            | inr no_false ↦ inr (λ r. neither r.0 r.1 r.2 no_true no_false)
+          ]
     ]
   where
     neither : (choices : List Bool) → length choices ≡ suc n → P choices
@@ -141,7 +152,8 @@ some_choices (suc n) P each =
     neither (true ∷ choices) long p no_true no_false = no_true (choices, omega (arith, long), p)
     neither (false ∷ choices) long p no_true no_false = no_false (choices, omega (arith, long), p)
 
-some_member : {X : Type 0} (xs : List X) (P : X → Type 0) → ((x : X) → Decided (P x)) → Decided ((x : X) × Member x xs × P x)
+some_member : {X : Type 0} (xs : List X) (P : X → Type 0) → ((x : X) → Decided (P x)) →
+    Decided ((x : X) × Member x xs × P x)
 some_member {X = X} [] P each = inr (λ r. r.1)
 some_member {X = X} (x ∷ xs) P each =
     elim (each x) [
@@ -167,11 +179,13 @@ module _ (m : CartanMatrix) (word : List ℕ) (letters : IsWord m word) where
       columns : Decided ((i : ℕ) → i < 6 → (j : ℕ) → j < 6 → cell e.entries i j ≡ acts m u (integer_unit j) i)
       columns =
           all_below_decided (λ i. (j : ℕ) → j < 6 → cell e.entries i j ≡ acts m u (integer_unit j) i)
-          (λ i. all_below_decided (λ j. cell e.entries i j ≡ acts m u (integer_unit j) i) (λ j. same_integers (cell e.entries i j) (acts m u (integer_unit j) i)) 6) 6
+          (λ i. all_below_decided (λ j. cell e.entries i j ≡ acts m u (integer_unit j) i)
+          (λ j. same_integers (cell e.entries i j) (acts m u (integer_unit j) i)) 6) 6
 
   vertex_decided : (e : Elem) → Decided (IsVertex m word e)
   vertex_decided e =
-      elim (some_choices (length word) (λ choices. IsProduct m (kept choices word) e) (λ choices long. product_decided (kept choices word) (kept_word m choices word letters) e)) [
+      elim (some_choices (length word) (λ choices. IsProduct m (kept choices word) e)
+      (λ choices long. product_decided (kept choices word) (kept_word m choices word letters) e)) [
         | inl r ↦ inl (record { choices = r.0; as_long = r.1; product = r.2 })
         | inr never ↦ inr (λ v. never (v.choices, v.as_long, v.product))
       ]
@@ -181,7 +195,8 @@ module _ (m : CartanMatrix) (word : List ℕ) (letters : IsWord m word) where
     once = stable_once list (λ never. h (λ v. never v.once));
     each = λ e member. stable (vertex_decided e) (λ never. h (λ v. never (v.each e member)));
     all = λ choices long.
-        stable (some_member list (λ e. IsProduct m (kept choices word) e) (λ e. product_decided (kept choices word) (kept_word m choices word letters) e))
+        stable (some_member list (λ e. IsProduct m (kept choices word) e)
+        (λ e. product_decided (kept choices word) (kept_word m choices word letters) e))
         (λ never. h (λ v. never (v.all choices long)));
   }
 
@@ -189,10 +204,12 @@ module _ (m : CartanMatrix) (word : List ℕ) (letters : IsWord m word) where
   pub vertex_member : (list : List Elem) → HasVertices m word list → (e : Elem) → IsVertex m word e → Member e list
   vertex_member list vertices e v =
       let r : (x : Elem) × Member x list × IsProduct m (kept v.choices word) x = vertices.all v.choices v.as_long in
-      subst (λ (x : Elem). Member x list) (same_element m (kept v.choices word) (kept v.choices word) r.0 e r.2 v.product refl) r.1
+      subst (λ (x : Elem). Member x list)
+      (same_element m (kept v.choices word) (kept v.choices word) r.0 e r.2 v.product refl) r.1
 
 pub not_empty : (m : CartanMatrix) (word : List ℕ) (list : List Elem) → HasVertices m word list → 1 ≤ length list
 not_empty m word list vertices =
-    let r : (e : Elem) × Member e list × IsProduct m (kept (none_chosen word) word) e = vertices.all (none_chosen word) (length-none_chosen word) in
+    let r : (e : Elem) × Member e list × IsProduct m (kept (none_chosen word) word) e =
+    vertices.all (none_chosen word) (length-none_chosen word) in
     let place : (i : ℕ) × (i < length list) × ((c : Elem) → get_or list i c ≡ r.0) = place_of r.0 list r.1 in
     omega (arith, place.1)

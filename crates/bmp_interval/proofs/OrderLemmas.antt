@@ -30,40 +30,48 @@ same_list [] [] h = refl
 same_list [] (y ∷ ys) h = absurd (cc)
 same_list (x ∷ xs) [] h = absurd (cc)
 same_list (x ∷ xs) (y ∷ ys) h =
-    let both : (int_cmp x y ≡ Equal) × (slice_cmp int_cmp xs ys ≡ Equal) = both_equal (int_cmp x y) (slice_cmp int_cmp xs ys) h in
+    let both : (int_cmp x y ≡ Equal) × (slice_cmp int_cmp xs ys ≡ Equal) =
+    both_equal (int_cmp x y) (slice_cmp int_cmp xs ys) h in
     ap₂ (λ z zs. z ∷ zs) (same_number x y both.0) (same_list xs ys both.1)
 
 module _ (roots : List Vector) where
   order_is_total : IsTotalOrder (vertex_order roots)
-  order_is_total = then_total (on_total (element_length roots) nat_cmp_total) (on_total (λ (e : Elem). e.entries) (lists_total int_cmp_total))
+  order_is_total = then_total (on_total (element_length roots) nat_cmp_total)
+      (on_total (λ (e : Elem). e.entries) (lists_total int_cmp_total))
 
   before_is_order : IsStrictWeakOrder (λ x y. comes_before roots x y)
   before_is_order = ranks_by order_is_total (λ x. x)
 
   same_vertex : (x y : Elem) → x.rank ≡ y.rank → vertex_order roots x y ≡ Equal → x ≡ y
   same_vertex x y rank h =
-      let both : (nat_cmp (element_length roots x) (element_length roots y) ≡ Equal) × (slice_cmp int_cmp x.entries y.entries ≡ Equal) =
-      both_equal (nat_cmp (element_length roots x) (element_length roots y)) (slice_cmp int_cmp x.entries y.entries) h in
+      let both : (nat_cmp (element_length roots x) (element_length roots y) ≡ Equal) ×
+      (slice_cmp int_cmp x.entries y.entries ≡ Equal) =
+      both_equal (nat_cmp (element_length roots x) (element_length roots y)) (slice_cmp int_cmp x.entries y.entries)
+      h in
       ap₂ (λ (r : ℕ) (e : List ℤ). record { rank = r; entries = e }) rank (same_list x.entries y.entries both.1)
 
   -- of two different vertices one comes before the other
-  pub before_or_same : (x y : Elem) → x.rank ≡ y.rank → x ≢ y → comes_before roots y x ≡ false → comes_before roots x y ≡ true
+  pub before_or_same : (x y : Elem) → x.rank ≡ y.rank → x ≢ y → comes_before roots y x ≡ false →
+      comes_before roots x y ≡ true
   before_or_same x y rank apart later = by (vertex_order roots y x) refl (order_is_total.antisymm x y) later
     where
-      by : (r : Ordering) → vertex_order roots y x ≡ r → vertex_order roots x y ≡ ordering_reverse r → is_lt r ≡ false → is_lt (vertex_order roots x y) ≡ true
+      by : (r : Ordering) → vertex_order roots y x ≡ r → vertex_order roots x y ≡ ordering_reverse r → is_lt r ≡ false →
+          is_lt (vertex_order roots x y) ≡ true
       by Less is turned never = absurd (cc)
       by Equal is turned never = absurd (apart (same_vertex x y rank turned))
       by Greater is turned never = ap is_lt turned
 
   -- the number of a vertex is its place
-  pub sorted_number : (list : List Elem) (n : ℕ) → HasEachOnce list → ((e : Elem) → Member e list → e.rank ≡ n) → IsSortedBy (λ x y. comes_before roots x y) list
+  pub sorted_number : (list : List Elem) (n : ℕ) → HasEachOnce list → ((e : Elem) → Member e list → e.rank ≡ n) →
+      IsSortedBy (λ x y. comes_before roots x y) list
       → (i : ℕ) (d : Elem) → i < length list → number_of roots list (get_or list i d) ≡ i
   sorted_number list n once ranks sorted i d inside =
       count_prefix (λ x. comes_before roots x (get_or list i d)) list i d (omega arith)
       (λ k before.
       let k_inside : k < length list = omega arith in
       before_or_same (get_or list k d) (get_or list i d)
-      (ranks (get_or list k d) (member_at list k d k_inside) ∙ sym (ranks (get_or list i d) (member_at list i d inside)))
+      (ranks (get_or list k d) (member_at list k d k_inside)
+      ∙ sym (ranks (get_or list i d) (member_at list i d inside)))
       (λ e. let same : k ≡ i = once_apart list once k i d k_inside inside e in absurd (omega arith))
       (sorted_far (λ x y. comes_before roots x y) before_is_order list sorted k i d (omega arith) inside))
       (λ k after k_inside. sorted_far (λ x y. comes_before roots x y) before_is_order list sorted i k d after k_inside)
@@ -83,7 +91,9 @@ module _ (roots : List Vector) where
 
   -- lengths never fall along the numbers
   pub sorted_rises : (list : List Elem) → IsSortedBy (λ x y. comes_before roots x y) list
-      → (x y : ℕ) (d : Elem) → x ≤ y → y < length list → element_length roots (get_or list x d) ≤ element_length roots (get_or list y d)
+      → (x y : ℕ) (d : Elem) → x ≤ y → y < length list → element_length roots (get_or list x d) ≤ element_length roots
+      (get_or list y d)
   sorted_rises list sorted x y d l inside =
-      not_shorter (element_length roots (get_or list y d)) (element_length roots (get_or list x d)) (slice_cmp int_cmp (get_or list y d).entries (get_or list x d).entries)
+      not_shorter (element_length roots (get_or list y d)) (element_length roots (get_or list x d))
+      (slice_cmp int_cmp (get_or list y d).entries (get_or list x d).entries)
       (sorted_far (λ x y. comes_before roots x y) before_is_order list sorted x y d l inside)

@@ -20,8 +20,10 @@ WordIsOnlyLongest = (m : CartanMatrix) (roots : List Vector) → IsRootSystem m 
 
 abbrev pub IntervalIsOne : Type 0
 IntervalIsOne = (m : CartanMatrix) (roots others : List Vector) → ArePositiveRoots m roots → ArePositiveRoots m others
-    → (word : List ℕ) (list other : List Elem) → IsInterval m roots word list → IsInterval m others word other → list ≡ other
+    → (word : List ℕ) (list other : List Elem) → IsInterval m roots word list → IsInterval m others word other →
+    list ≡ other
 
 abbrev pub IntervalOfIsOne : Type 0
 IntervalOfIsOne = (roots others : Roots) → matrix_of roots ≡ matrix_of others
-    → (word : List ℕ) (list other : List Elem) → IsIntervalOf roots word list → IsIntervalOf others word other → list ≡ other
+    → (word : List ℕ) (list other : List Elem) → IsIntervalOf roots word list → IsIntervalOf others word other →
+    list ≡ other

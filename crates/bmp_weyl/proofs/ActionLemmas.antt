@@ -19,7 +19,8 @@ pub All-reverse : {X : Type 0} (P : X → Type 0) (xs : List X) → All P xs →
 All-reverse P [] h = h
 All-reverse P (x ∷ xs) h =
     subst (All P) (sym (reverse-append (x ∷ []) xs))
-    (All-append P (reverse xs) (x ∷ []) (All-reverse P xs (All-tail P x xs h)) (All-cons P x [] (All-head P x xs h) (All-nil P)))
+    (All-append P (reverse xs) (x ∷ []) (All-reverse P xs (All-tail P x xs h))
+    (All-cons P x [] (All-head P x xs h) (All-nil P)))
 
 module _ (m : CartanMatrix) where
   -- ---- words
@@ -27,16 +28,26 @@ module _ (m : CartanMatrix) where
   acts-append [] w v = refl
   acts-append (k ∷ u) w v = ap (across m (simple_pair k)) (acts-append u w v)
 
-  pub across-minus_times : (q : RootPair) (v b : Vector) (t : ℤ) → across m q (minus_times v t b) ≡ minus_times (across m q v) t (across m q b)
+  pub across-minus_times : (q : RootPair) (v b : Vector) (t : ℤ) →
+      across m q (minus_times v t b) ≡ minus_times (across m q v) t (across m q b)
   across-minus_times q v b t = fun_ext (λ j.
       let x : ℤ = pairing m q.coroot v in
       let y : ℤ = pairing m q.coroot b in
       let e : pairing m q.coroot (minus_times v t b) ≡ x -ℤ t *ℤ y = pairing-minus_right m q.coroot v b t in
-      omega (arith, ints, ap (λ z. z *ℤ q.root j) e, sub-mul x (t *ℤ y) (q.root j), mul-sub t (b j) (y *ℤ q.root j), mul_assoc t y (q.root j)))
+      omega (
+        arith,
+        ints,
+        ap (λ z. z *ℤ q.root j) e,
+        sub-mul x (t *ℤ y) (q.root j),
+        mul-sub t (b j) (y *ℤ q.root j),
+        mul_assoc t y (q.root j),
+      ))
 
-  pub acts-minus_times : (u : List ℕ) (v b : Vector) (t : ℤ) → acts m u (minus_times v t b) ≡ minus_times (acts m u v) t (acts m u b)
+  pub acts-minus_times : (u : List ℕ) (v b : Vector) (t : ℤ) →
+      acts m u (minus_times v t b) ≡ minus_times (acts m u v) t (acts m u b)
   acts-minus_times [] v b t = refl
-  acts-minus_times (k ∷ u) v b t = ap (across m (simple_pair k)) (acts-minus_times u v b t) ∙ across-minus_times (simple_pair k) (acts m u v) (acts m u b) t
+  acts-minus_times (k ∷ u) v b t = ap (across m (simple_pair k)) (acts-minus_times u v b t)
+      ∙ across-minus_times (simple_pair k) (acts m u v) (acts m u b) t
 
   pub walk-root : (u : List ℕ) (q : RootPair) → (walk m u q).root ≡ acts m u q.root
   walk-root [] q = refl
@@ -45,11 +56,13 @@ module _ (m : CartanMatrix) where
   acts_nothing : (u : List ℕ) (w : Vector) → ((j : ℕ) → w j ≡ pos 0) → (i : ℕ) → acts m u w i ≡ pos 0
   acts_nothing u w h i =
       let same : w ≡ minus_times w (pos 1) w = fun_ext (λ j. omega (arith, ints, h j)) in
-      let e : acts m u w i ≡ acts m u w i -ℤ pos 1 *ℤ acts m u w i = ap (λ v. acts m u v i) same ∙ ap (λ v. v i) (acts-minus_times u w w (pos 1)) in
+      let e : acts m u w i ≡ acts m u w i -ℤ pos 1 *ℤ acts m u w i =
+      ap (λ v. acts m u v i) same ∙ ap (λ v. v i) (acts-minus_times u w w (pos 1)) in
       omega (arith, ints, e)
 
   -- what a word makes of a vector, by what it makes of the integer_unit vectors
-  pub acts_sum : (u : List ℕ) (n : ℕ) (w : Vector) (i : ℕ) → ((j : ℕ) → n ≤ j → w j ≡ pos 0) → acts m u w i ≡ integer_sum (λ l. w l *ℤ acts m u (integer_unit l) i) n
+  pub acts_sum : (u : List ℕ) (n : ℕ) (w : Vector) (i : ℕ) → ((j : ℕ) → n ≤ j → w j ≡ pos 0) →
+      acts m u w i ≡ integer_sum (λ l. w l *ℤ acts m u (integer_unit l) i) n
   unfolding integer_sum
   acts_sum u zero w i past = acts_nothing u w (λ j. past j (omega arith)) i
   acts_sum u (suc n) w i past =
@@ -65,14 +78,24 @@ module _ (m : CartanMatrix) where
             let zero_there : w j ≡ pos 0 = past j (omega arith) in
             omega (arith, ints, ap (λ z. w n *ℤ z) none)
       ] in
-      let kept : (l : ℕ) → l < n → less l *ℤ acts m u (integer_unit l) i ≡ w l *ℤ acts m u (integer_unit l) i = λ l inside.
+      let kept : (l : ℕ) → l < n → less l *ℤ acts m u (integer_unit l) i ≡ w l *ℤ acts m u (integer_unit l) i =
+      λ l inside.
       let none : integer_unit n l ≡ pos 0 = unit_off n l (omega arith) in
       let same : less l ≡ w l = omega (arith, ints, ap (λ z. w n *ℤ z) none) in
       ap (λ z. z *ℤ acts m u (integer_unit l) i) same in
-      let split : acts m u less i ≡ acts m u w i -ℤ w n *ℤ acts m u (integer_unit n) i = ap (λ v. v i) (acts-minus_times u w (integer_unit n) (w n)) in
-      omega (arith, ints, split, acts_sum u n less i gone, integer_sum_same (λ l. less l *ℤ acts m u (integer_unit l) i) (λ l. w l *ℤ acts m u (integer_unit l) i) n kept)
+      let split : acts m u less i ≡ acts m u w i -ℤ w n *ℤ acts m u (integer_unit n) i =
+      ap (λ v. v i) (acts-minus_times u w (integer_unit n) (w n)) in
+      omega (
+        arith,
+        ints,
+        split,
+        acts_sum u n less i gone,
+        integer_sum_same (λ l. less l *ℤ acts m u (integer_unit l) i) (λ l. w l *ℤ acts m u (integer_unit l) i) n
+            kept,
+      )
 
-  pub acts_past : m.rank ≤ 6 → (u : List ℕ) → IsWord m u → (v : Vector) → ((j : ℕ) → 6 ≤ j → v j ≡ pos 0) → (j : ℕ) → 6 ≤ j → acts m u v j ≡ pos 0
+  pub acts_past : m.rank ≤ 6 → (u : List ℕ) → IsWord m u → (v : Vector) → ((j : ℕ) → 6 ≤ j → v j ≡ pos 0) →
+      (j : ℕ) → 6 ≤ j → acts m u v j ≡ pos 0
   acts_past rank [] letters v past j out = past j out
   acts_past rank (k ∷ u) letters v past j out =
       let l : k < m.rank = All-head (λ k. k < m.rank) k u letters in
@@ -93,13 +116,15 @@ module _ (m : CartanMatrix) where
           (λ h inside. ap (λ z. entry m k h *ℤ z) (unit_off j h (omega arith)) ∙ mul-zero (entry m k h)) in
           omega (arith, ints, ap (λ z. z *ℤ integer_unit k i) none))
 
-  pub columns_within : HasFiniteSystem m → (u : List ℕ) → IsWord m u → (i j : ℕ) → j < m.rank → IsWithin 32 (acts m u (integer_unit j) i)
+  pub columns_within : HasFiniteSystem m → (u : List ℕ) → IsWord m u → (i j : ℕ) → j < m.rank →
+      IsWithin 32 (acts m u (integer_unit j) i)
   columns_within finite u letters i j l =
       let q : RootPair = walk m u (simple_pair j) in
       let is : IsRootPair m q = record { word = u; letters = letters; first = j; first_below = l; reached = refl } in
       subst (λ v. IsWithin 32 (v i)) (walk-root u (simple_pair j)) (finite.small q is i).0
 
-  pub columns_small : HasFiniteSystem m → (u : List ℕ) → IsWord m u → (i j : ℕ) → IsWithin 32 (acts m u (integer_unit j) i)
+  pub columns_small : HasFiniteSystem m → (u : List ℕ) → IsWord m u →
+      (i j : ℕ) → IsWithin 32 (acts m u (integer_unit j) i)
   columns_small finite u letters i j =
       elim (below_or j m.rank) [
         | inl inside ↦ columns_within finite u letters i j inside
@@ -112,7 +137,8 @@ module _ (m : CartanMatrix) where
   -- vectors that are 0 below the rank stay as they are
   pub acts_outside : (u : List ℕ) → IsWord m u → (v : Vector) → ((j : ℕ) → j < m.rank → v j ≡ pos 0) → acts m u v ≡ v
   acts_outside [] letters v none = refl
-  acts_outside (k ∷ u) letters v none = ap (across m (simple_pair k)) (acts_outside u (All-tail (λ k. k < m.rank) k u letters) v none) ∙ fixed
+  acts_outside (k ∷ u) letters v none =
+      ap (across m (simple_pair k)) (acts_outside u (All-tail (λ k. k < m.rank) k u letters) v none) ∙ fixed
     where
       fixed : across m (simple_pair k) v ≡ v
       fixed = fun_ext (λ i.

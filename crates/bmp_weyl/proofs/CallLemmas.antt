@@ -28,14 +28,18 @@ pub root_system : (roots : Roots) → IsRootSystem (matrix_of roots) (positive_r
 root_system roots = record { form = roots.form; finite = has_finite_system roots; positive = has_positive_roots roots }
 
 -- ---- counting the positive roots of a kind
-pub root_at : (roots : Roots) (i : ℕ) (root : List ℤ) (d : Pair) → i < length (positives roots) → root ≡ (get_or (positives roots) i d).root
+pub root_at : (roots : Roots) (i : ℕ) (root : List ℤ) (d : Pair) → i < length (positives roots) →
+    root ≡ (get_or (positives roots) i d).root
     → get_or (positive_roots_of roots) i (coordinates d.root) ≡ coordinates root
-root_at roots i root d l e = get_or-map (λ (p : Pair). coordinates p.root) (positives roots) i d (coordinates d.root) l ∙ ap coordinates (sym e)
+root_at roots i root d l e = get_or-map (λ (p : Pair). coordinates p.root) (positives roots) i d (coordinates d.root) l
+    ∙ ap coordinates (sym e)
 
-pub count_more : (test : Vector → Bool) (roots : List Vector) (i n r : ℕ) (d b : Vector) → i < length roots → get_or roots i d ≡ b
+pub count_more : (test : Vector → Bool) (roots : List Vector) (i n r : ℕ) (d b : Vector) → i < length roots →
+    get_or roots i d ≡ b
     → n ≡ count_by test (take i roots) → r ≡ n + cond {A = ℕ} (test b) 1 0 → r ≡ count_by test (take (i + 1) roots)
 count_more test roots i n r d b l at before e =
-    let grown : take (i + 1) roots ≡ take i roots ++ b ∷ [] = take_more roots i d l ∙ ap (λ v. take i roots ++ v ∷ []) at in
+    let grown : take (i + 1) roots ≡ take i roots ++ b ∷ [] =
+    take_more roots i d l ∙ ap (λ v. take i roots ++ v ∷ []) at in
     omega (
       arith,
       before,
@@ -45,9 +49,12 @@ count_more test roots i n r d b l at before e =
       sum_by-cons (λ v. cond {A = ℕ} (test v) 1 0) b [],
     )
 
-pub count_all : (test : Vector → Bool) (roots : Roots) (i n : ℕ) → length (positives roots) ≤ i → n ≡ count_by test (take i (positive_roots_of roots)) → n ≡ count_by test (positive_roots_of roots)
+pub count_all : (test : Vector → Bool) (roots : Roots) (i n : ℕ) → length (positives roots) ≤ i →
+    n ≡ count_by test (take i (positive_roots_of roots)) → n ≡ count_by test (positive_roots_of roots)
 count_all test roots i n all e =
-    e ∙ ap (count_by test) (take_all i (positive_roots_of roots) (omega (arith, length-map (positives roots) (λ (p : Pair). coordinates p.root))))
+    e ∙ ap (count_by test)
+    (take_all i (positive_roots_of roots)
+    (omega (arith, length-map (positives roots) (λ (p : Pair). coordinates p.root))))
 
 pub at_most_one : (b : Bool) → cond {A = ℕ} b 1 0 ≤ 1
 at_most_one true = omega arith
@@ -60,16 +67,21 @@ same_tests false true h = h.1 refl
 same_tests false false h = refl
 
 -- one root more, of which the code knows whether the element makes it negative
-pub root_counted : (roots : Roots) (e : Elem) (i n r rank : ℕ) (root : List ℤ) (negative : Bool) → i < length (positives roots)
-    → ((d : Pair) → root ≡ (get_or (positives roots) i d).root) → rank ≡ e.rank → (IsTrue negative ↔ IsTrue (has_negative rank (image e.entries (coordinates root))))
-    → n ≡ count_by (λ b. has_negative e.rank (image e.entries b)) (take i (positive_roots_of roots)) → r ≡ n + cond {A = ℕ} negative 1 0
+pub root_counted : (roots : Roots) (e : Elem) (i n r rank : ℕ) (root : List ℤ) (negative : Bool) →
+    i < length (positives roots)
+    → ((d : Pair) → root ≡ (get_or (positives roots) i d).root) → rank ≡ e.rank →
+    (IsTrue negative ↔ IsTrue (has_negative rank (image e.entries (coordinates root))))
+    → n ≡ count_by (λ b. has_negative e.rank (image e.entries b)) (take i (positive_roots_of roots)) →
+    r ≡ n + cond {A = ℕ} negative 1 0
     → r ≡ count_by (λ b. has_negative e.rank (image e.entries b)) (take (i + 1) (positive_roots_of roots))
 root_counted roots e i n r rank root negative l at same_rank tests before more =
     let test : Vector → Bool = λ b. has_negative e.rank (image e.entries b) in
     let d : Pair = record { root = []; coroot = [] } in
     let same : negative ≡ test (coordinates root) =
-    same_tests negative (has_negative rank (image e.entries (coordinates root))) tests ∙ ap (λ k. has_negative k (image e.entries (coordinates root))) same_rank in
-    count_more test (positive_roots_of roots) i n r (coordinates d.root) (coordinates root) (omega (arith, length-map (positives roots) (λ (p : Pair). coordinates p.root)))
+    same_tests negative (has_negative rank (image e.entries (coordinates root))) tests
+    ∙ ap (λ k. has_negative k (image e.entries (coordinates root))) same_rank in
+    count_more test (positive_roots_of roots) i n r (coordinates d.root) (coordinates root)
+    (omega (arith, length-map (positives roots) (λ (p : Pair). coordinates p.root)))
     (root_at roots i root d l (at d)) before (more ∙ ap (λ (b : Bool). n + cond {A = ℕ} b 1 0) same)
 
 pub not_both : (b : Bool) → b ≡ false → IsTrue b → ⊥
@@ -80,33 +92,41 @@ not_both b e h = true_false b h e
 
 -- ---- words of letters from 1
 pub word_letters : (m : CartanMatrix) (letters : List ℕ) → All (IsLetter m.rank) letters → IsWord m (word_of letters)
-word_letters m letters h = All-map (λ k. k < m.rank) (λ letter. letter - 1) letters (All-weaker (IsLetter m.rank) (λ letter. letter - 1 < m.rank) (λ letter is. omega (arith, is)) letters h)
+word_letters m letters h =
+    All-map (λ k. k < m.rank) (λ letter. letter - 1) letters
+    (All-weaker (IsLetter m.rank) (λ letter. letter - 1 < m.rank) (λ letter is. omega (arith, is)) letters h)
 
 word_of-reverse : (letters : List ℕ) → word_of (reverse letters) ≡ reverse (word_of letters)
 word_of-reverse [] = refl
 word_of-reverse (a ∷ letters) =
     ap word_of (reverse-append (a ∷ []) letters) ∙ map-append (λ letter. letter - 1) (reverse letters) (a ∷ [])
-    ∙ ap (λ (w : List ℕ). w ++ (a - 1) ∷ []) (word_of-reverse letters) ∙ sym (reverse-append ((a - 1) ∷ []) (word_of letters))
+    ∙ ap (λ (w : List ℕ). w ++ (a - 1) ∷ []) (word_of-reverse letters)
+    ∙ sym (reverse-append ((a - 1) ∷ []) (word_of letters))
 
-pub word_more : (letters : List ℕ) (i : ℕ) → i < length letters → word_of (take (i + 1) letters) ≡ word_of (take i letters) ++ (get_or letters i 0 - 1) ∷ []
+pub word_more : (letters : List ℕ) (i : ℕ) → i < length letters →
+    word_of (take (i + 1) letters) ≡ word_of (take i letters) ++ (get_or letters i 0 - 1) ∷ []
 word_more letters i l = map_more (λ letter. letter - 1) letters i 0 l
 
 -- ---- unit vectors
-pub unit_written : (k : ℕ) → k < 6 → coordinates (set (pos 0 ∷ pos 0 ∷ pos 0 ∷ pos 0 ∷ pos 0 ∷ pos 0 ∷ []) k (pos 1)) ≡ integer_unit k
+pub unit_written : (k : ℕ) → k < 6 → coordinates (set (pos 0 ∷ pos 0 ∷ pos 0 ∷ pos 0 ∷ pos 0 ∷ pos 0 ∷ []) k (pos 1))
+    ≡ integer_unit k
 unit_written k l = fun_ext (λ j.
     elim (cases_eq j k) [
       | inl same ↦
           ap (λ i. get_or (set (pos 0 ∷ pos 0 ∷ pos 0 ∷ pos 0 ∷ pos 0 ∷ pos 0 ∷ []) k (pos 1)) i (pos 0)) same
-          ∙ get_or-set_same (pos 0 ∷ pos 0 ∷ pos 0 ∷ pos 0 ∷ pos 0 ∷ pos 0 ∷ []) k (pos 1) (pos 0) l ∙ sym (ap (integer_unit k) same ∙ unit_at k)
+          ∙ get_or-set_same (pos 0 ∷ pos 0 ∷ pos 0 ∷ pos 0 ∷ pos 0 ∷ pos 0 ∷ []) k (pos 1) (pos 0) l
+          ∙ sym (ap (integer_unit k) same ∙ unit_at k)
       | inr apart ↦
-          get_or-set_other (pos 0 ∷ pos 0 ∷ pos 0 ∷ pos 0 ∷ pos 0 ∷ pos 0 ∷ []) k j (pos 1) (pos 0) apart ∙ zeros_read 6 j ∙ sym (unit_off k j apart)
+          get_or-set_other (pos 0 ∷ pos 0 ∷ pos 0 ∷ pos 0 ∷ pos 0 ∷ pos 0 ∷ []) k j (pos 1) (pos 0) apart
+          ∙ zeros_read 6 j ∙ sym (unit_off k j apart)
     ])
 
 -- ---- least right descents taken off an element from the right
 pub record HasLeft (roots : Roots) (self : Elem) (off : List ℕ) (rest : Elem) : Type 0 where
   pub letters : All (IsLetter (matrix_of roots).rank) off
   pub left : (u : List ℕ) → IsProduct (matrix_of roots) u self → IsProduct (matrix_of roots) (u ++ word_of off) rest
-  pub taken : (u : List ℕ) → IsProduct (matrix_of roots) u self → HasTakenOff (matrix_of roots) (positive_roots_of roots) (root_system roots) u (word_of off)
+  pub taken : (u : List ℕ) → IsProduct (matrix_of roots) u self →
+      HasTakenOff (matrix_of roots) (positive_roots_of roots) (root_system roots) u (word_of off)
 
 pub all_left : (roots : Roots) (self : Elem) → HasLeft roots self [] self
 all_left roots self = record {
@@ -115,26 +135,33 @@ all_left roots self = record {
   taken = λ u h. nothing_taken (matrix_of roots) (positive_roots_of roots) (root_system roots) u;
 }
 
-pub rest_is_element : (roots : Roots) (self : Elem) (off : List ℕ) (rest : Elem) → IsElement (matrix_of roots) self → HasLeft roots self off rest → IsElement (matrix_of roots) rest
+pub rest_is_element : (roots : Roots) (self : Elem) (off : List ℕ) (rest : Elem) → IsElement (matrix_of roots) self →
+    HasLeft roots self off rest → IsElement (matrix_of roots) rest
 rest_is_element roots self off rest (u, h) left = (u ++ word_of off, left.left u h)
 
-pub less_left : (roots : Roots) (self : Elem) (off : List ℕ) (rest : Elem) (k : ℕ) (next : Elem) → HasLeft roots self off rest → IsLetter (matrix_of roots).rank k
-    → ((u : List ℕ) → IsProduct (matrix_of roots) u rest → IsLeastDescent (matrix_of roots) (positive_roots_of roots) u (k - 1))
+pub less_left : (roots : Roots) (self : Elem) (off : List ℕ) (rest : Elem) (k : ℕ) (next : Elem) →
+    HasLeft roots self off rest → IsLetter (matrix_of roots).rank k
+    → ((u : List ℕ) → IsProduct (matrix_of roots) u rest → IsLeastDescent (matrix_of roots) (positive_roots_of roots) u
+    (k - 1))
     → ((u : List ℕ) → IsProduct (matrix_of roots) u rest → IsProduct (matrix_of roots) (u ++ (k - 1) ∷ []) next)
     → HasLeft roots self (off ++ k ∷ []) next
 less_left roots self off rest k next h letter least product = record {
   letters = All-push (IsLetter (matrix_of roots).rank) off k h.letters letter;
   left = λ u is.
-      subst (λ w. IsProduct (matrix_of roots) w next) (append_assoc u (word_of off) ((k - 1) ∷ []) ∙ ap (λ (w : List ℕ). u ++ w) (sym (map_push (λ letter. letter - 1) off k)))
+      subst (λ w. IsProduct (matrix_of roots) w next) (append_assoc u (word_of off) ((k - 1) ∷ [])
+      ∙ ap (λ (w : List ℕ). u ++ w) (sym (map_push (λ letter. letter - 1) off k)))
       (product (u ++ word_of off) (h.left u is));
   taken = λ u is.
-      subst (λ w. HasTakenOff (matrix_of roots) (positive_roots_of roots) (root_system roots) u w) (sym (map_push (λ letter. letter - 1) off k))
-      (one_taken (matrix_of roots) (positive_roots_of roots) (root_system roots) u (word_of off) (k - 1) is.letters (word_letters (matrix_of roots) off h.letters) (omega (arith, letter))
+      subst (λ w. HasTakenOff (matrix_of roots) (positive_roots_of roots) (root_system roots) u w)
+      (sym (map_push (λ letter. letter - 1) off k))
+      (one_taken (matrix_of roots) (positive_roots_of roots) (root_system roots) u (word_of off) (k - 1) is.letters
+      (word_letters (matrix_of roots) off h.letters) (omega (arith, letter))
       (h.taken u is) (least (u ++ word_of off) (h.left u is)));
 }
 
 pub next_shorter : (roots : Roots) (rest : Elem) (k : ℕ) (next : Elem) → IsElement (matrix_of roots) rest
-    → ((u : List ℕ) → IsProduct (matrix_of roots) u rest → IsLeastDescent (matrix_of roots) (positive_roots_of roots) u (k - 1))
+    → ((u : List ℕ) → IsProduct (matrix_of roots) u rest → IsLeastDescent (matrix_of roots) (positive_roots_of roots) u
+    (k - 1))
     → ((u : List ℕ) → IsProduct (matrix_of roots) u rest → IsProduct (matrix_of roots) (u ++ (k - 1) ∷ []) next)
     → element_length (positive_roots_of roots) next < element_length (positive_roots_of roots) rest
 next_shorter roots rest k next (u, h) least product =
@@ -142,21 +169,28 @@ next_shorter roots rest k next (u, h) least product =
       arith,
       (least u h).descent,
       element_length-product (matrix_of roots) (positive_roots_of roots) (root_system roots) u rest h,
-      element_length-product (matrix_of roots) (positive_roots_of roots) (root_system roots) (u ++ (k - 1) ∷ []) next (product u h),
+      element_length-product (matrix_of roots) (positive_roots_of roots) (root_system roots) (u ++ (k - 1) ∷ []) next
+          (product u h),
     )
 
 -- what was taken off, backwards, is the word of least right descents, where the identity is left
-pub none_left : (roots : Roots) (self : Elem) (off : List ℕ) (rest : Elem) → IsElement (matrix_of roots) self → HasLeft roots self off rest → IsProduct (matrix_of roots) [] rest
-    → IsProduct (matrix_of roots) (word_of (reverse off)) self × IsReduced (matrix_of roots) (positive_roots_of roots) (word_of (reverse off))
+pub none_left : (roots : Roots) (self : Elem) (off : List ℕ) (rest : Elem) → IsElement (matrix_of roots) self →
+    HasLeft roots self off rest → IsProduct (matrix_of roots) [] rest
+    → IsProduct (matrix_of roots) (word_of (reverse off)) self × IsReduced (matrix_of roots) (positive_roots_of roots)
+    (word_of (reverse off))
     × IsDescentWord (matrix_of roots) (positive_roots_of roots) (word_of (reverse off))
 none_left roots self off rest (u, h) left identity =
     let m : CartanMatrix = matrix_of roots in
     let behind : IsWord m (word_of off) = word_letters m off left.letters in
-    let alike : acts m (u ++ word_of off) ≡ acts m [] = same_words m roots.form (u ++ word_of off) [] rest (left.left u h) identity in
-    let r : (acts m (reverse (word_of off)) ≡ acts m u) × IsReduced m (positive_roots_of roots) (reverse (word_of off)) × IsDescentWord m (positive_roots_of roots) (reverse (word_of off)) =
+    let alike : acts m (u ++ word_of off) ≡ acts m [] =
+    same_words m roots.form (u ++ word_of off) [] rest (left.left u h) identity in
+    let r : (acts m (reverse (word_of off)) ≡ acts m u) × IsReduced m (positive_roots_of roots) (reverse (word_of off))
+    × IsDescentWord m (positive_roots_of roots) (reverse (word_of off)) =
     all_taken m (positive_roots_of roots) (root_system roots) u (word_of off) h.letters behind (left.taken u h) alike in
-    subst (λ (w : List ℕ). IsProduct m w self × IsReduced m (positive_roots_of roots) w × IsDescentWord m (positive_roots_of roots) w) (sym (word_of-reverse off))
+    subst (λ (w : List ℕ). IsProduct m w self × IsReduced m (positive_roots_of roots) w ×
+    IsDescentWord m (positive_roots_of roots) w) (sym (word_of-reverse off))
     (product_alike m u (reverse (word_of off)) self h (word-reverse m (word_of off) behind) (sym r.0), r.1, r.2)
 
-pub letters-reverse : (roots : Roots) (self : Elem) (off : List ℕ) (rest : Elem) → HasLeft roots self off rest → All (IsLetter (matrix_of roots).rank) (reverse off)
+pub letters-reverse : (roots : Roots) (self : Elem) (off : List ℕ) (rest : Elem) → HasLeft roots self off rest →
+    All (IsLetter (matrix_of roots).rank) (reverse off)
 letters-reverse roots self off rest left = All-reverse (IsLetter (matrix_of roots).rank) off left.letters

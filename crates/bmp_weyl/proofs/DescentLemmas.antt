@@ -30,42 +30,59 @@ sum_least f (suc n) h = omega (arith, ints, sum_least f n (λ i l. h i (omega ar
 module _ (m : CartanMatrix) (roots : List Vector) (system : IsRootSystem m roots) where
   -- products that act alike have one length behind each letter
   same_behind : (u w : List ℕ) → acts m u ≡ acts m w → (k : ℕ) → acts m (u ++ k ∷ []) ≡ acts m (w ++ k ∷ [])
-  same_behind u w e k = fun_ext (λ v. acts-append m u (k ∷ []) v ∙ ap (λ (f : Vector → Vector). f (acts m (k ∷ []) v)) e ∙ sym (acts-append m w (k ∷ []) v))
+  same_behind u w e k =
+      fun_ext (λ v. acts-append m u (k ∷ []) v ∙ ap (λ (f : Vector → Vector). f (acts m (k ∷ []) v)) e
+      ∙ sym (acts-append m w (k ∷ []) v))
 
-  descent_same : (u w : List ℕ) → acts m u ≡ acts m w → (k : ℕ) → IsRightDescent m roots u k → IsRightDescent m roots w k
+  descent_same : (u w : List ℕ) → acts m u ≡ acts m w → (k : ℕ) → IsRightDescent m roots u k →
+      IsRightDescent m roots w k
   descent_same u w e k h =
-      omega (arith, h, length_same m roots system u w e, length_same m roots system (u ++ k ∷ []) (w ++ k ∷ []) (same_behind u w e k))
+      omega (
+        arith,
+        h,
+        length_same m roots system u w e,
+        length_same m roots system (u ++ k ∷ []) (w ++ k ∷ []) (same_behind u w e k),
+      )
 
-  pub least_same : (u w : List ℕ) → acts m u ≡ acts m w → (k : ℕ) → IsLeastDescent m roots u k → IsLeastDescent m roots w k
+  pub least_same : (u w : List ℕ) → acts m u ≡ acts m w → (k : ℕ) → IsLeastDescent m roots u k →
+      IsLeastDescent m roots w k
   least_same u w e k h = record {
     descent = descent_same u w e k h.descent;
     least = λ j l d. h.least j l (descent_same w u (sym e) j d);
   }
 
   -- a product without a right descent is the identity
-  no_length : (u : List ℕ) → IsWord m u → ((k : ℕ) → k < m.rank → IsRightDescent m roots u k → ⊥) → length_of m roots u ≡ 0
+  no_length : (u : List ℕ) → IsWord m u → ((k : ℕ) → k < m.rank → IsRightDescent m roots u k → ⊥) →
+      length_of m roots u ≡ 0
   no_length u letters never = none roots (λ b h. system.positive.each b h)
     where
       columns : (k i : ℕ) → k < m.rank → i < m.rank → pos 0 ≤ℤ acts m u (integer_unit k) i
       columns k i l inside =
           not_negative m.rank (acts m u (integer_unit k))
-          (decided (has_negative m.rank (acts m u (integer_unit k))) (λ h. never k l (negative_descent m roots system u letters k l h))) i inside
+          (decided (has_negative m.rank (acts m u (integer_unit k)))
+          (λ h. never k l (negative_descent m roots system u letters k l h))) i inside
         where
           decided : (b : Bool) → (b ≡ true → ⊥) → b ≡ false
           decided true h = absurd (h refl)
           decided false h = refl
 
-      stays : (b : Vector) → (q : RootPair) × IsRootPair m q × (q.root ≡ b) × IsPositive m b → (i : ℕ) → i < m.rank → pos 0 ≤ℤ acts m u b i
+      stays : (b : Vector) → (q : RootPair) × IsRootPair m q × (q.root ≡ b) × IsPositive m b → (i : ℕ) → i < m.rank →
+          pos 0 ≤ℤ acts m u b i
       stays b (q, is, same, positive) i inside =
           let past : (j : ℕ) → m.rank ≤ j → b j ≡ pos 0 = λ j out. sym (ap (λ v. v j) same) ∙ root_past m j out q is in
           subst (λ z. pos 0 ≤ℤ z) (sym (acts_sum m u m.rank b i past))
-          (sum_least (λ l. b l *ℤ acts m u (integer_unit l) i) m.rank (λ l below. product_least (b l) (acts m u (integer_unit l) i) (positive l below) (columns l i below inside)))
+          (sum_least (λ l. b l *ℤ acts m u (integer_unit l) i) m.rank
+          (λ l below. product_least (b l) (acts m u (integer_unit l) i) (positive l below)
+          (columns l i below inside)))
 
-      none : (bs : List Vector) → ((b : Vector) → Member b bs → (q : RootPair) × IsRootPair m q × (q.root ≡ b) × IsPositive m b) → count_by (λ b. has_negative m.rank (acts m u b)) bs ≡ 0
+      none : (bs : List Vector) →
+          ((b : Vector) → Member b bs → (q : RootPair) × IsRootPair m q × (q.root ≡ b) × IsPositive m b) →
+          count_by (λ b. has_negative m.rank (acts m u b)) bs ≡ 0
       none [] each = refl
       none (b ∷ bs) each =
           let here : has_negative m.rank (acts m u b) ≡ false =
-          decided (has_negative m.rank (acts m u b)) (all_not_negative m.rank (acts m u b) (stays b (each b (inl refl)))) in
+          decided (has_negative m.rank (acts m u b))
+          (all_not_negative m.rank (acts m u b) (stays b (each b (inl refl)))) in
           omega (
             arith,
             sum_by-cons (λ v. cond {A = ℕ} (has_negative m.rank (acts m u v)) 1 0) b bs,
@@ -77,7 +94,8 @@ module _ (m : CartanMatrix) (roots : List Vector) (system : IsRootSystem m roots
           decided true h = absurd (h refl)
           decided false h = refl
 
-  pub no_descent : (u : List ℕ) → IsWord m u → ((k : ℕ) → k < m.rank → IsRightDescent m roots u k → ⊥) → acts m u ≡ acts m []
+  pub no_descent : (u : List ℕ) → IsWord m u → ((k : ℕ) → k < m.rank → IsRightDescent m roots u k → ⊥) →
+      acts m u ≡ acts m []
   no_descent u letters never = length_zero m roots system u letters (no_length u letters never)
 
   -- ---- least right descents taken off from the right, one after another, as a loop does
@@ -86,9 +104,11 @@ module _ (m : CartanMatrix) (roots : List Vector) (system : IsRootSystem m roots
     pub descents : (j : ℕ) → j < length off → IsLeastDescent m roots (u ++ take j off) (get_or off j 0)
 
   pub nothing_taken : (u : List ℕ) → HasTakenOff u []
-  nothing_taken u = record { shorter = omega (arith, ap (length_of m roots) (append-nil u)); descents = λ j l. absurd (omega arith) }
+  nothing_taken u =
+      record { shorter = omega (arith, ap (length_of m roots) (append-nil u)); descents = λ j l. absurd (omega arith) }
 
-  pub one_taken : (u off : List ℕ) (k : ℕ) → IsWord m u → IsWord m off → k < m.rank → HasTakenOff u off → IsLeastDescent m roots (u ++ off) k → HasTakenOff u (off ++ k ∷ [])
+  pub one_taken : (u off : List ℕ) (k : ℕ) → IsWord m u → IsWord m off → k < m.rank → HasTakenOff u off →
+      IsLeastDescent m roots (u ++ off) k → HasTakenOff u (off ++ k ∷ [])
   one_taken u off k letters behind l h least = record {
     shorter =
         let joined : u ++ off ++ k ∷ [] ≡ u ++ (off ++ k ∷ []) = append_assoc u off (k ∷ []) in
@@ -98,18 +118,22 @@ module _ (m : CartanMatrix) (roots : List Vector) (system : IsRootSystem m roots
           length-append off (k ∷ []),
           ap (length_of m roots) joined,
           (length_by_one m roots system (u ++ off) (All-append (λ k. k < m.rank) u off letters behind) k l).0
-              (descent_negative m roots system (u ++ off) (All-append (λ k. k < m.rank) u off letters behind) k l least.descent),
+              (descent_negative m roots system (u ++ off) (All-append (λ k. k < m.rank) u off letters behind) k l
+              least.descent),
         );
     descents = λ j inside.
         elim (cases_eq j (length off)) [
           | inl same ↦
               subst (λ i. IsLeastDescent m roots (u ++ take i (off ++ k ∷ [])) (get_or (off ++ k ∷ []) i 0)) (sym same)
-              (subst (λ (w : List ℕ). IsLeastDescent m roots (u ++ w) (get_or (off ++ k ∷ []) (length off) 0)) (sym (take_at off (k ∷ []) (length off) refl))
+              (subst (λ (w : List ℕ). IsLeastDescent m roots (u ++ w) (get_or (off ++ k ∷ []) (length off) 0))
+              (sym (take_at off (k ∷ []) (length off) refl))
               (subst (λ i. IsLeastDescent m roots (u ++ off) i) (sym (get_or_at off k [] 0 (length off) refl)) least))
           | inr apart ↦
               let before : j < length off = omega (arith, length-append off (k ∷ [])) in
-              subst (λ (w : List ℕ). IsLeastDescent m roots (u ++ w) (get_or (off ++ k ∷ []) j 0)) (sym (take-append-le j off (k ∷ []) (omega arith)))
-              (subst (λ i. IsLeastDescent m roots (u ++ take j off) i) (sym (get_or_append_left off (k ∷ []) 0 j before)) (h.descents j before))
+              subst (λ (w : List ℕ). IsLeastDescent m roots (u ++ w) (get_or (off ++ k ∷ []) j 0))
+              (sym (take-append-le j off (k ∷ []) (omega arith)))
+              (subst (λ i. IsLeastDescent m roots (u ++ take j off) i)
+              (sym (get_or_append_left off (k ∷ []) 0 j before)) (h.descents j before))
         ];
   }
 
@@ -140,11 +164,15 @@ module _ (m : CartanMatrix) (roots : List Vector) (system : IsRootSystem m roots
             let below : j < n = omega (arith, long) in
             let split : reverse off ≡ reverse (drop j off) ++ reverse (take j off) =
             ap reverse (sym (take-append-drop j off)) ∙ reverse-append (take j off) (drop j off) in
-            let size : length (reverse (drop j off)) ≡ i + 1 = omega (arith, length-reverse (drop j off), length-drop j off, long) in
-            let front : take (i + 1) (reverse off) ≡ reverse (drop j off) = ap (take (i + 1)) split ∙ take_at (reverse (drop j off)) (reverse (take j off)) (i + 1) size in
-            let joined : u ++ take j off ++ drop j off ≡ u ++ off = append_assoc u (take j off) (drop j off) ∙ ap (λ (w : List ℕ). u ++ w) (take-append-drop j off) in
+            let size : length (reverse (drop j off)) ≡ i + 1 =
+            omega (arith, length-reverse (drop j off), length-drop j off, long) in
+            let front : take (i + 1) (reverse off) ≡ reverse (drop j off) =
+            ap (take (i + 1)) split ∙ take_at (reverse (drop j off)) (reverse (take j off)) (i + 1) size in
+            let joined : u ++ take j off ++ drop j off ≡ u ++ off = append_assoc u (take j off) (drop j off)
+            ∙ ap (λ (w : List ℕ). u ++ w) (take-append-drop j off) in
             let alike : acts m (reverse (drop j off)) ≡ acts m (u ++ take j off) =
-            taken_acts (u ++ take j off) (drop j off) (All-drop (λ k. k < m.rank) j off behind) (ap (acts m) joined ∙ identity) in
+            taken_acts (u ++ take j off) (drop j off) (All-drop (λ k. k < m.rank) j off behind)
+            (ap (acts m) joined ∙ identity) in
             let letter : get_or (reverse off) i 0 ≡ get_or off j 0 = get_or-reverse off i 0 (omega (arith, long)) in
             subst (λ (w : List ℕ). IsLeastDescent m roots w (get_or (reverse off) i 0)) (sym front)
             (subst (λ k. IsLeastDescent m roots (reverse (drop j off)) k) (sym letter)

@@ -27,22 +27,28 @@ use Rattle.bmp_weyl.proofs.ReflectionLemmas.{reflection_is_element}
 module _ (m : CartanMatrix) where
   -- ---- the matrix of a word
   -- the product of the matrices is the matrix of the joined words
-  pub columns_product : m.rank ≤ 6 → (u w : List ℕ) (x y : List ℤ) → IsWord m w → HasColumns (acts m u) x → HasColumns (acts m w) y
+  pub columns_product : m.rank ≤ 6 → (u w : List ℕ) (x y : List ℤ) → IsWord m w → HasColumns (acts m u) x →
+      HasColumns (acts m w) y
       → (i j : ℕ) → i < 6 → j < 6 → product_cell x y i j ≡ acts m (u ++ w) (integer_unit j) i
   columns_product rank u w x y letters hx hy i j li lj =
-      integer_sum_same (λ l. cell x i l *ℤ cell y l j) (λ l. acts m w (integer_unit j) l *ℤ acts m u (integer_unit l) i) 6
-      (λ l inside. ap₂ (λ a b. a *ℤ b) (hx i l li inside) (hy l j inside lj) ∙ *ℤ_comm (acts m u (integer_unit l) i) (acts m w (integer_unit j) l))
-      ∙ sym (acts_sum m u 6 (acts m w (integer_unit j)) i (acts_past m rank w letters (integer_unit j) (λ k out. unit_off j k (omega arith))))
+      integer_sum_same (λ l. cell x i l *ℤ cell y l j) (λ l. acts m w (integer_unit j) l *ℤ acts m u (integer_unit l) i)
+      6
+      (λ l inside. ap₂ (λ a b. a *ℤ b) (hx i l li inside) (hy l j inside lj)
+      ∙ *ℤ_comm (acts m u (integer_unit l) i) (acts m w (integer_unit j) l))
+      ∙ sym (acts_sum m u 6 (acts m w (integer_unit j)) i
+      (acts_past m rank w letters (integer_unit j) (λ k out. unit_off j k (omega arith))))
       ∙ sym (ap (λ v. v i) (acts-append m u w (integer_unit j)))
 
-  pub image_is : (u : List ℕ) (e : Elem) → IsProduct m u e → (v : Vector) → ((j : ℕ) → 6 ≤ j → v j ≡ pos 0) → (i : ℕ) → i < 6 → image e.entries v i ≡ acts m u v i
+  pub image_is : (u : List ℕ) (e : Elem) → IsProduct m u e → (v : Vector) → ((j : ℕ) → 6 ≤ j → v j ≡ pos 0) →
+      (i : ℕ) → i < 6 → image e.entries v i ≡ acts m u v i
   image_is u e h v past i l =
       integer_sum_same (λ k. v k *ℤ cell e.entries i k) (λ k. v k *ℤ acts m u (integer_unit k) i) 6
       (λ k inside. ap (λ z. v k *ℤ z) (h.columns i k l inside))
       ∙ sym (acts_sum m u 6 v i past)
 
   -- a word and another that act alike on the unit vectors act alike
-  pub same_action : (u w : List ℕ) → IsWord m u → IsWord m w → ((j i : ℕ) → j < m.rank → acts m u (integer_unit j) i ≡ acts m w (integer_unit j) i) → acts m u ≡ acts m w
+  pub same_action : (u w : List ℕ) → IsWord m u → IsWord m w →
+      ((j i : ℕ) → j < m.rank → acts m u (integer_unit j) i ≡ acts m w (integer_unit j) i) → acts m u ≡ acts m w
   same_action u w first second alike = fun_ext (λ v. fun_ext (λ i. agree m.rank v i (λ j l out. absurd (omega arith))))
     where
       -- by how many coordinates below the rank are not known to be 0
@@ -55,7 +61,9 @@ module _ (m : CartanMatrix) where
           below_or : (a b : ℕ) → (a < b) ⊎ (b ≤ a)
           below_or a b = grind arith
 
-          step : (n < m.rank) ⊎ (m.rank ≤ n) → ((x : Vector) → ((j : ℕ) → j < m.rank → n ≤ j → x j ≡ pos 0) → acts m u x i ≡ acts m w x i) → acts m u v i ≡ acts m w v i
+          step : (n < m.rank) ⊎ (m.rank ≤ n) →
+              ((x : Vector) → ((j : ℕ) → j < m.rank → n ≤ j → x j ≡ pos 0) → acts m u x i ≡ acts m w x i) →
+              acts m u v i ≡ acts m w v i
           step (inr out) fewer = fewer v (λ j l past. absurd (omega arith))
           step (inl inside) fewer =
               let less : Vector = minus_times v (v n) (integer_unit n) in
@@ -70,8 +78,10 @@ module _ (m : CartanMatrix) where
                     let zero_there : v j ≡ pos 0 = none j l (omega arith) in
                     omega (arith, ints, ap (λ z. v n *ℤ z) nothing)
               ] in
-              let split_u : acts m u less i ≡ acts m u v i -ℤ v n *ℤ acts m u (integer_unit n) i = ap (λ (f : Vector). f i) (acts-minus_times m u v (integer_unit n) (v n)) in
-              let split_w : acts m w less i ≡ acts m w v i -ℤ v n *ℤ acts m w (integer_unit n) i = ap (λ (f : Vector). f i) (acts-minus_times m w v (integer_unit n) (v n)) in
+              let split_u : acts m u less i ≡ acts m u v i -ℤ v n *ℤ acts m u (integer_unit n) i =
+              ap (λ (f : Vector). f i) (acts-minus_times m u v (integer_unit n) (v n)) in
+              let split_w : acts m w less i ≡ acts m w v i -ℤ v n *ℤ acts m w (integer_unit n) i =
+              ap (λ (f : Vector). f i) (acts-minus_times m w v (integer_unit n) (v n)) in
               omega (arith, ints, split_u, split_w, fewer less gone, ap (λ z. v n *ℤ z) (alike n i inside))
 
   -- elements are the same exactly where their words act alike
@@ -82,13 +92,15 @@ module _ (m : CartanMatrix) where
       let row : q / 6 < 6 = omega (arith, hx.places) in
       let column : q % 6 < 6 = omega arith in
       ap (λ p. get_or x.entries p (pos 0)) (sym (place_is q))
-      ∙ hx.columns (q / 6) (q % 6) row column ∙ ap (λ (f : Vector → Vector). f (integer_unit (q % 6)) (q / 6)) alike ∙ sym (hy.columns (q / 6) (q % 6) row column)
+      ∙ hx.columns (q / 6) (q % 6) row column ∙ ap (λ (f : Vector → Vector). f (integer_unit (q % 6)) (q / 6)) alike
+      ∙ sym (hy.columns (q / 6) (q % 6) row column)
       ∙ ap (λ p. get_or y.entries p (pos 0)) (place_is q)))
 
   pub same_words : HasCartanForm m → (u w : List ℕ) (x : Elem) → IsProduct m u x → IsProduct m w x → acts m u ≡ acts m w
   same_words form u w x hu hw = same_action u w hu.letters hw.letters (λ j i l.
       elim (below_or i 6) [
-        | inl inside ↦ sym (hu.columns i j inside (omega (arith, form.at_most_six))) ∙ hw.columns i j inside (omega (arith, form.at_most_six))
+        | inl inside ↦ sym (hu.columns i j inside (omega (arith, form.at_most_six)))
+            ∙ hw.columns i j inside (omega (arith, form.at_most_six))
         | inr out ↦ past u hu.letters j i l out ∙ sym (past w hw.letters j i l out)
       ])
     where
@@ -96,16 +108,20 @@ module _ (m : CartanMatrix) where
       below_or a b = grind arith
 
       past : (u : List ℕ) → IsWord m u → (j i : ℕ) → j < m.rank → 6 ≤ i → acts m u (integer_unit j) i ≡ pos 0
-      past u letters j i l out = acts_past m form.at_most_six u letters (integer_unit j) (λ k far. unit_off j k (omega (arith, form.at_most_six))) i out
+      past u letters j i l out =
+          acts_past m form.at_most_six u letters (integer_unit j)
+          (λ k far. unit_off j k (omega (arith, form.at_most_six))) i out
 
   -- ---- products
-  pub product_is : HasCartanForm m → (u w : List ℕ) (x y r : Elem) → IsProduct m u x → IsProduct m w y → r.rank ≡ x.rank → length r.entries ≡ 36
+  pub product_is : HasCartanForm m → (u w : List ℕ) (x y r : Elem) → IsProduct m u x → IsProduct m w y →
+      r.rank ≡ x.rank → length r.entries ≡ 36
       → ((i j : ℕ) → i < 6 → j < 6 → cell r.entries i j ≡ product_cell x.entries y.entries i j) → IsProduct m (u ++ w) r
   product_is form u w x y r hx hy e long cells = record {
     rank = e ∙ hx.rank;
     letters = All-append (λ k. k < m.rank) u w hx.letters hy.letters;
     places = long;
-    columns = λ i j li lj. cells i j li lj ∙ columns_product form.at_most_six u w x.entries y.entries hy.letters hx.columns hy.columns i j li lj;
+    columns = λ i j li lj. cells i j li lj
+        ∙ columns_product form.at_most_six u w x.entries y.entries hy.letters hx.columns hy.columns i j li lj;
   }
 
   -- an element is the product of each word that acts like one of its words
@@ -118,20 +134,26 @@ module _ (m : CartanMatrix) where
   }
 
   pub small_cells : HasFiniteSystem m → (e : Elem) → IsElement m e → HasSmallCells e.entries
-  small_cells finite e (u, h) i j li lj = subst (λ z. IsWithin 32 z) (sym (h.columns i j li lj)) (columns_small m finite u h.letters i j)
+  small_cells finite e (u, h) i j li lj =
+      subst (λ z. IsWithin 32 z) (sym (h.columns i j li lj)) (columns_small m finite u h.letters i j)
 
   -- ---- descents by columns
-  pub descent_found : (u : List ℕ) (e : Elem) (k i : ℕ) → HasCartanForm m → IsProduct m u e → k < 6 → i < e.rank → cell e.entries i k <ℤ pos 0
+  pub descent_found : (u : List ℕ) (e : Elem) (k i : ℕ) → HasCartanForm m → IsProduct m u e → k < 6 → i < e.rank →
+      cell e.entries i k <ℤ pos 0
       → has_negative m.rank (acts m u (integer_unit k)) ≡ true
   descent_found u e k i form h lk li below =
       let inside : i < m.rank = omega (arith, h.rank) in
-      place_negative m.rank (acts m u (integer_unit k)) i inside (subst (λ z. z <ℤ pos 0) (h.columns i k (omega (arith, form.at_most_six)) lk) below)
+      place_negative m.rank (acts m u (integer_unit k)) i inside
+      (subst (λ z. z <ℤ pos 0) (h.columns i k (omega (arith, form.at_most_six)) lk) below)
 
-  pub no_descent_found : (u : List ℕ) (e : Elem) (k : ℕ) → HasCartanForm m → IsProduct m u e → k < 6 → ((i : ℕ) → i < e.rank → pos 0 ≤ℤ cell e.entries i k)
+  pub no_descent_found : (u : List ℕ) (e : Elem) (k : ℕ) → HasCartanForm m → IsProduct m u e → k < 6 →
+      ((i : ℕ) → i < e.rank → pos 0 ≤ℤ cell e.entries i k)
       → has_negative m.rank (acts m u (integer_unit k)) ≡ true → ⊥
   no_descent_found u e k form h lk least negative =
-      let r : (j : ℕ) × (j < m.rank) × (acts m u (integer_unit k) j <ℤ pos 0) = negative_place m.rank (acts m u (integer_unit k)) negative in
-      let at : cell e.entries r.0 k ≡ acts m u (integer_unit k) r.0 = h.columns r.0 k (omega (arith, r.1, form.at_most_six)) lk in
+      let r : (j : ℕ) × (j < m.rank) × (acts m u (integer_unit k) j <ℤ pos 0) =
+      negative_place m.rank (acts m u (integer_unit k)) negative in
+      let at : cell e.entries r.0 k ≡ acts m u (integer_unit k) r.0 =
+      h.columns r.0 k (omega (arith, r.1, form.at_most_six)) lk in
       let above : pos 0 ≤ℤ cell e.entries r.0 k = least r.0 (omega (arith, r.1, h.rank)) in
       let below : acts m u (integer_unit k) r.0 <ℤ pos 0 = r.2 in
       absurd (omega (arith, ints))
@@ -140,21 +162,27 @@ module _ (m : CartanMatrix) where
   has_negative_same : (n : ℕ) (v w : Vector) → ((i : ℕ) → i < n → v i ≡ w i) → has_negative n v ≡ has_negative n w
   unfolding has_negative
   has_negative_same zero v w h = refl
-  has_negative_same (suc n) v w h = ap₂ (λ a b. a || b) (has_negative_same n v w (λ i l. h i (omega arith))) (ap (λ z. int_lt z (pos 0)) (h n (omega arith)))
+  has_negative_same (suc n) v w h =
+      ap₂ (λ a b. a || b) (has_negative_same n v w (λ i l. h i (omega arith)))
+      (ap (λ z. int_lt z (pos 0)) (h n (omega arith)))
 
   -- the element makes as many roots negative as its word
-  pub element_length-product : (roots : List Vector) → IsRootSystem m roots → (u : List ℕ) (e : Elem) → IsProduct m u e → element_length roots e ≡ length_of m roots u
+  pub element_length-product : (roots : List Vector) → IsRootSystem m roots → (u : List ℕ) (e : Elem) →
+      IsProduct m u e → element_length roots e ≡ length_of m roots u
   element_length-product roots system u e h =
-      count roots (λ b k. let r : (q : RootPair) × IsRootPair m q × (q.root ≡ b) × IsPositive m b = system.positive.each b k in
+      count roots (λ b k. let r : (q : RootPair) × IsRootPair m q × (q.root ≡ b) ×
+      IsPositive m b = system.positive.each b k in
       λ j out. sym (ap (λ (v : Vector). v j) r.2) ∙ root_past m j (omega (arith, system.form.at_most_six)) r.0 r.1)
     where
       count : (bs : List Vector) → ((b : Vector) → Member b bs → (j : ℕ) → 6 ≤ j → b j ≡ pos 0)
-          → count_by (λ b. has_negative e.rank (image e.entries b)) bs ≡ count_by (λ b. has_negative m.rank (acts m u b)) bs
+          → count_by (λ b. has_negative e.rank (image e.entries b)) bs
+          ≡ count_by (λ b. has_negative m.rank (acts m u b)) bs
       count [] past = refl
       count (b ∷ bs) past =
           let same : has_negative e.rank (image e.entries b) ≡ has_negative m.rank (acts m u b) =
           ap (λ n. has_negative n (image e.entries b)) h.rank
-          ∙ has_negative_same m.rank (image e.entries b) (acts m u b) (λ i l. image_is u e h b (past b (inl refl)) i (omega (arith, system.form.at_most_six))) in
+          ∙ has_negative_same m.rank (image e.entries b) (acts m u b)
+          (λ i l. image_is u e h b (past b (inl refl)) i (omega (arith, system.form.at_most_six))) in
           omega (
             arith,
             sum_by-cons (λ v. cond {A = ℕ} (has_negative e.rank (image e.entries v)) 1 0) b bs,
@@ -164,21 +192,25 @@ module _ (m : CartanMatrix) where
           )
 
   -- a simple reflection behind an element makes it one longer or one shorter
-  pub element_step : (roots : List Vector) → IsRootSystem m roots → (u : List ℕ) (k : ℕ) (x y r : Elem) → IsProduct m u x → IsProduct m (k ∷ []) y → IsProduct m (u ++ k ∷ []) r
+  pub element_step : (roots : List Vector) → IsRootSystem m roots → (u : List ℕ) (k : ℕ) (x y r : Elem) →
+      IsProduct m u x → IsProduct m (k ∷ []) y → IsProduct m (u ++ k ∷ []) r
       → (element_length roots r ≡ element_length roots x + 1) ⊎ (element_length roots r + 1 ≡ element_length roots x)
   element_step roots system u k x y r hx hy hr =
       let before : element_length roots x ≡ length_of m roots u = element_length-product roots system u x hx in
-      let after : element_length roots r ≡ length_of m roots (u ++ k ∷ []) = element_length-product roots system (u ++ k ∷ []) r hr in
+      let after : element_length roots r ≡ length_of m roots (u ++ k ∷ []) =
+      element_length-product roots system (u ++ k ∷ []) r hr in
       elim (length_step m roots system u hx.letters k (All-head (λ k. k < m.rank) k [] hy.letters)) [
         | inl up ↦ inl (after ∙ up ∙ ap (λ n. n + 1) (sym before))
         | inr down ↦ inr (ap (λ n. n + 1) after ∙ down ∙ sym before)
       ]
 
   -- ---- reflections
-  pub reflection_product : (roots : List Vector) → IsRootSystem m roots → (q : RootPair) → IsRootPair m q → (e : Elem) → IsReflection m q e
+  pub reflection_product : (roots : List Vector) → IsRootSystem m roots → (q : RootPair) → IsRootPair m q → (e : Elem) →
+      IsReflection m q e
       → (u : List ℕ) × (length u % 2 ≡ 1) × (acts m u ≡ across m q) × IsProduct m u e
   reflection_product roots system q is e h =
-      let r : (u : List ℕ) × IsWord m u × (length u % 2 ≡ 1) × (acts m u ≡ across m q) = reflection_is_element m roots system q is in (
+      let r : (u : List ℕ) × IsWord m u × (length u % 2 ≡ 1) × (acts m u ≡ across m q) =
+      reflection_is_element m roots system q is in (
         r.0,
         r.2,
         r.3,
@@ -190,10 +222,13 @@ module _ (m : CartanMatrix) where
         },
       )
 
-pub product_fits : (x y : Elem) → AreElementsOfOne x y → (i j : ℕ) → i < 6 → j < 6 → IsWithin 32 (product_cell x.entries y.entries i j)
+pub product_fits : (x y : Elem) → AreElementsOfOne x y → (i j : ℕ) → i < 6 → j < 6 →
+    IsWithin 32 (product_cell x.entries y.entries i j)
 product_fits x y h i j li lj =
     let u : List ℕ = h.first.0 in
     let w : List ℕ = h.second.0 in
     subst (λ z. IsWithin 32 z)
-    (sym (columns_product h.matrix h.form.at_most_six u w x.entries y.entries h.second.1.letters h.first.1.columns h.second.1.columns i j li lj))
-    (columns_small h.matrix h.finite (u ++ w) (All-append (λ k. k < h.matrix.rank) u w h.first.1.letters h.second.1.letters) i j)
+    (sym (columns_product h.matrix h.form.at_most_six u w x.entries y.entries h.second.1.letters h.first.1.columns
+    h.second.1.columns i j li lj))
+    (columns_small h.matrix h.finite (u ++ w)
+    (All-append (λ k. k < h.matrix.rank) u w h.first.1.letters h.second.1.letters) i j)

@@ -16,24 +16,32 @@ use Rattle.bmp_weyl.proofs.ExchangeLemmas.{acts-across}
 
 -- an integer is twice another, or one more
 halves : (n : ℤ) → (t : ℤ) × ((n ≡ pos 2 *ℤ t) ⊎ (n ≡ pos 2 *ℤ t +ℤ pos 1))
-halves (pos n) = elim (rest n) [ inl e ↦ (pos (n / 2), inl (omega (arith, ints))) | inr e ↦ (pos (n / 2), inr (omega (arith, ints))) ]
+halves (pos n) = elim
+    (rest n) [ inl e ↦ (pos (n / 2), inl (omega (arith, ints))) | inr e ↦ (pos (n / 2), inr (omega (arith, ints))) ]
   where
     rest : (n : ℕ) → (n % 2 ≡ 0) ⊎ (n % 2 ≡ 1)
     rest n = grind arith
-halves (negsuc n) = elim (rest n) [ inl e ↦ (negsuc (n / 2), inr (omega (arith, ints))) | inr e ↦ (negsuc (n / 2), inl (omega (arith, ints))) ]
+halves (negsuc n) =
+    elim (rest n) [
+      | inl e ↦ (negsuc (n / 2), inr (omega (arith, ints)))
+      | inr e ↦
+          (negsuc (n / 2), inl (omega (arith, ints)))
+    ]
   where
     rest : (n : ℕ) → (n % 2 ≡ 0) ⊎ (n % 2 ≡ 1)
     rest n = grind arith
 
 module _ (m : CartanMatrix) (roots : List Vector) (system : IsRootSystem m roots) where
   -- by the word that leads to the pair, its simple reflection, and the word backwards
-  pub reflection_is_element : (q : RootPair) → IsRootPair m q → (u : List ℕ) × IsWord m u × (length u % 2 ≡ 1) × (acts m u ≡ across m q)
+  pub reflection_is_element : (q : RootPair) → IsRootPair m q → (u : List ℕ) × IsWord m u × (length u % 2 ≡ 1) ×
+      (acts m u ≡ across m q)
   reflection_is_element q h =
       let u : List ℕ = h.word in
       let k : ℕ = h.first in
       let back : IsWord m (reverse u) = word-reverse m u h.letters in (
         u ++ k ∷ reverse u,
-        All-append (λ k. k < m.rank) u (k ∷ reverse u) h.letters (All-cons (λ k. k < m.rank) k (reverse u) h.first_below back),
+        All-append (λ k. k < m.rank) u (k ∷ reverse u) h.letters
+            (All-cons (λ k. k < m.rank) k (reverse u) h.first_below back),
         omega (arith, length-append u (k ∷ reverse u), length-reverse u),
         fun_ext (λ v.
             acts-append m u (k ∷ reverse u) v
@@ -46,9 +54,11 @@ module _ (m : CartanMatrix) (roots : List Vector) (system : IsRootSystem m roots
   -- a positive root is no multiple of another
   same_multiple : (p q : RootPair) → IsRootPair m p → IsRootPair m q → IsPositive m p.root → IsPositive m q.root
       → (t : ℤ) → ((j : ℕ) → q.root j ≡ t *ℤ p.root j) → p.root ≡ q.root
-  same_multiple p q hp hq pp pq (pos zero) e = absurd (primitive_root m system.form 2 (omega arith) q hq (λ j l. (pos 0, omega (arith, ints, e j))))
+  same_multiple p q hp hq pp pq (pos zero) e =
+      absurd (primitive_root m system.form 2 (omega arith) q hq (λ j l. (pos 0, omega (arith, ints, e j))))
   same_multiple p q hp hq pp pq (pos (suc zero)) e = fun_ext (λ j. omega (arith, ints, e j))
-  same_multiple p q hp hq pp pq (pos (suc (suc n))) e = absurd (primitive_root m system.form (suc (suc n)) (omega arith) q hq (λ j l. (p.root j, e j)))
+  same_multiple p q hp hq pp pq (pos (suc (suc n))) e =
+      absurd (primitive_root m system.form (suc (suc n)) (omega arith) q hq (λ j l. (p.root j, e j)))
   same_multiple p q hp hq pp pq (negsuc n) e =
       let r : (j : ℕ) × (j < m.rank) × (pos 0 <ℤ p.root j) = above_somewhere m system.form system.finite p hp pp in
       absurd (below n (p.root r.0) (q.root r.0) (e r.0) r.2 (pq r.0 r.1))
@@ -56,10 +66,12 @@ module _ (m : CartanMatrix) (roots : List Vector) (system : IsRootSystem m roots
       below : (n : ℕ) (x y : ℤ) → y ≡ negsuc n *ℤ x → pos 0 <ℤ x → pos 0 ≤ℤ y → ⊥
       below n (pos zero) y e above least = absurd (omega (arith, ints))
       below n (pos (suc x)) (negsuc y) e above least = absurd (omega (arith, ints))
-      below n (pos (suc x)) (pos y) e above least = let one : 1 ≤ suc x = omega arith in absurd (omega (arith, ints, mul-le-mul_left (suc n) one))
+      below n (pos (suc x)) (pos y) e above least = let one : 1 ≤ suc x = omega arith in
+          absurd (omega (arith, ints, mul-le-mul_left (suc n) one))
       below n (negsuc x) y e above least = absurd (omega (arith, ints))
 
-  pub reflection_knows_root : (p q : RootPair) → IsRootPair m p → IsRootPair m q → IsPositive m p.root → IsPositive m q.root
+  pub reflection_knows_root : (p q : RootPair) → IsRootPair m p → IsRootPair m q → IsPositive m p.root →
+      IsPositive m q.root
       → across m p ≡ across m q → p ≡ q
   reflection_knows_root p q hp hq pp pq same =
       let n : ℤ = pairing m p.coroot q.root in
@@ -93,7 +105,9 @@ module _ (m : CartanMatrix) (roots : List Vector) (system : IsRootSystem m roots
   reflection_changes_length q h u w first second same equal =
       let r : (t : List ℕ) × IsWord m t × (length t % 2 ≡ 1) × (acts m t ≡ across m q) = reflection_is_element q h in
       let joined : IsWord m (r.0 ++ u) = All-append (λ k. k < m.rank) r.0 u r.1 first in
-      let alike : acts m w ≡ acts m (r.0 ++ u) = fun_ext (λ v. same v ∙ ap (λ (f : Vector → Vector). f (acts m u v)) (sym r.3) ∙ sym (acts-append m r.0 u v)) in
+      let alike : acts m w ≡ acts m (r.0 ++ u) =
+      fun_ext (λ v. same v ∙ ap (λ (f : Vector → Vector). f (acts m u v)) (sym r.3)
+      ∙ sym (acts-append m r.0 u v)) in
       absurd (omega (
         arith,
         equal,

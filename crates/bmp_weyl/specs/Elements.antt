@@ -1,5 +1,5 @@
--- Elements, as the machine has them. The matrix of an element has in column j, from 0, what the element makes of the simple
--- root j; past the rank it is the identity.
+-- Elements, as the machine has them. The matrix of an element has in column j, from 0, what the element makes of the
+-- simple root j; past the rank it is the identity.
 --   rank_of e                   the rank of the root system of e
 --   IsProduct m word e          e is the product of the word
 --   IsElement m e               e is the product of some word

@@ -9,9 +9,11 @@ use Rattle.bmp_weyl.specs.Elements.{element_length}
 use Rattle.bmp_weyl.specs.declared.elem.Elem.{Elem}
 
 abbrev pub WordHasOneLength : Type 0
-WordHasOneLength = (m : CartanMatrix) (roots others : List Vector) → ArePositiveRoots m roots → ArePositiveRoots m others
+WordHasOneLength = (m : CartanMatrix) (roots others : List Vector) → ArePositiveRoots m roots →
+    ArePositiveRoots m others
     → (u : List ℕ) → length_of m roots u ≡ length_of m others u
 
 abbrev pub ElementHasOneLength : Type 0
-ElementHasOneLength = (m : CartanMatrix) (roots others : List Vector) → ArePositiveRoots m roots → ArePositiveRoots m others
+ElementHasOneLength = (m : CartanMatrix) (roots others : List Vector) → ArePositiveRoots m roots →
+    ArePositiveRoots m others
     → (e : Elem) → element_length roots e ≡ element_length others e

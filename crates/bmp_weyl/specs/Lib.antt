@@ -4,3 +4,6 @@ pub mod Matrices
 pub mod Elements
 pub mod ElementStatements
 pub mod LengthStatements
+pub mod SimpleProducts
+pub mod SimpleStatements
+pub mod Lowered

@@ -2,7 +2,8 @@
 --   LengthChangesByOne        a simple reflection on the right makes a product one longer or one shorter
 --   LengthAtMostLetters       a product is at most as long as its word, and of the same parity
 --   LengthZeroIsIdentity      a product of length 0 is the identity
---   DescentIsNegativeColumn   a product is shorter with a simple reflection behind it where it makes that simple root negative
+--   DescentIsNegativeColumn   a product is shorter with a simple reflection behind it where it makes that simple root
+--                             negative
 --   NoDescentIsIdentity       a product without a right descent is the identity
 --   LengthOfInverse           a product and its inverse, the product of the word backwards, are equally long
 --   Exchange                  where the letter k makes a product shorter, some other letter can go in its place

@@ -6,12 +6,13 @@ ghost use Rattle.bmp_roots.specs.Pairs.{coordinates};
 use crate::letters::Letters;
 use crate::matrix::{Entries, identity_entries, makes_negative, product_entries};
 use crate::reflecting::reflection_entries;
+use crate::simple::times_entries;
 use bmp_roots::Roots;
 use std::alloc::{AllocError, Global};
 
-/// An element: the matrix whose column j is what the element makes of the simple root j. There are six rows and columns; past
-/// the rank the matrix is the identity. Elements are compared, ordered and hashed by the rank and then by the entries, row by
-/// row.
+/// An element: the matrix whose column j is what the element makes of the simple root j. There are six rows and
+/// columns; past the rank the matrix is the identity. Elements are compared, ordered and hashed by the rank and then by
+/// the entries, row by row.
 #[derive(Clone, Copy, Debug, PartialEq, Eq, PartialOrd, Ord, Hash)]
 pub struct Elem {
     rank: u8,
@@ -37,6 +38,8 @@ impl Elem {
     ghost use Rattle.bmp_roots.specs.RootSystems.{matrix_of, positives, positive_roots_of};
     ghost use Rattle.bmp_roots.specs.declared.root_pair.Pair.{Pair};
     ghost use Rattle.bmp_weyl.specs.Words.{acts, IsRootSystem, length_of, IsReduced, IsRightDescent, IsLeastDescent, IsDescentWord};
+    ghost use Rattle.std.specs.Prelude.{true, false};
+    ghost use Rattle.bmp_weyl.specs.SimpleProducts.{times_simple, has_negative_column};
     ghost use Rattle.bmp_weyl.specs.Elements.{rank_of, IsProduct, IsElement, IsElementOfOne, AreElementsOfOne, IsReflection, element_length, word_of, IsLetter};
 
     /// The identity, the product of no letters.
@@ -61,8 +64,8 @@ impl Elem {
         }
     }
 
-    /// The reflection of the i-th positive pair, from 0: it sends the simple root j to itself less the value of the coroot on it
-    /// times the root.
+    /// The reflection of the i-th positive pair, from 0: it sends the simple root j to itself less the value of the
+    /// coroot on it times the root.
     pub fn reflection(roots: &Roots, i: u32) -> Elem
         requires { i < length (positives roots.now) }
         ensures reflection { (d : Pair)
@@ -76,8 +79,8 @@ impl Elem {
         }
     }
 
-    /// The entry at row i and column j, both from 1: the coordinate i of what the element makes of the simple root j. From -32
-    /// to 32.
+    /// The entry at row i and column j, both from 1: the coordinate i of what the element makes of the simple root j.
+    /// From -32 to 32.
     pub fn entry(&self, i: u8, j: u8) -> i16
         requires element { IsElementOfOne self.now }
         requires row { IsLetter (rank_of self.now) i }
@@ -89,7 +92,8 @@ impl Elem {
         self.entries[(i as usize - 1) * 6 + (j as usize - 1)] as i16
     }
 
-    /// The product: first `other`, and then this element. Its words are those of this element with those of `other` behind.
+    /// The product: first `other`, and then this element. Its words are those of this element with those of `other`
+    /// behind.
     pub fn mul(&self, other: &Elem) -> Elem
         requires { AreElementsOfOne self.now other.now }
         ensures product { (m : CartanMatrix) (u w : List ℕ) → HasCartanForm m
@@ -102,6 +106,29 @@ impl Elem {
         Elem {
             rank: self.rank,
             entries: product_entries(&self.entries, &other.entries),
+        }
+    }
+
+    /// The product with the simple reflection k, from 1, on the right, in 36 steps. It is one shorter where column k
+    /// has an entry below 0, and else one longer. The same product once more gives the element back.
+    pub fn times_simple(&self, roots: &Roots, k: u8) -> Elem
+        requires element { IsElement (matrix_of roots.now) self.now }
+        requires letter { IsLetter (matrix_of roots.now).rank k }
+        ensures value { result ≡ times_simple (matrix_of roots.now) self.now (k - 1) }
+        ensures element { IsElement (matrix_of roots.now) result }
+        ensures product { (u : List ℕ) → IsProduct (matrix_of roots.now) u self.now
+            → IsProduct (matrix_of roots.now) (u ++ (k - 1) ∷ []) result }
+        ensures twice { times_simple (matrix_of roots.now) result (k - 1) ≡ self.now }
+        ensures shorter { has_negative_column (matrix_of roots.now) self.now (k - 1) ≡ true
+            → element_length (positive_roots_of roots.now) result + 1 ≡ element_length (positive_roots_of roots.now)
+            self.now }
+        ensures longer { has_negative_column (matrix_of roots.now) self.now (k - 1) ≡ false
+            → element_length (positive_roots_of roots.now) result ≡ element_length (positive_roots_of roots.now)
+            self.now + 1 }
+    {
+        Elem {
+            rank: self.rank,
+            entries: times_entries(roots.cartan(), &self.entries, k as usize - 1),
         }
     }
 
@@ -125,8 +152,8 @@ impl Elem {
         count
     }
 
-    /// Whether the product with the simple reflection k, from 1, on the right is shorter: it is where the column k has an entry
-    /// below 0.
+    /// Whether the product with the simple reflection k, from 1, on the right is shorter: it is where the column k has
+    /// an entry below 0.
     pub fn is_right_descent(&self, roots: &Roots, k: u8) -> bool
         requires element { IsElement (matrix_of roots.now) self.now }
         requires letter { IsLetter (matrix_of roots.now).rank k }
@@ -142,7 +169,8 @@ impl Elem {
         false
     }
 
-    /// The least simple reflection, from 1, with which the product on the right is shorter. The identity alone has none.
+    /// The least simple reflection, from 1, with which the product on the right is shorter. The identity alone has
+    /// none.
     pub fn least_right_descent(&self, roots: &Roots) -> Option<u8>
         requires { IsElement (matrix_of roots.now) self.now }
         ensures none { IfNone result (IsProduct (matrix_of roots.now) [] self.now) }
@@ -158,8 +186,9 @@ impl Elem {
         None
     }
 
-    /// The word of least right descents: as many letters as the element is long, and its product is the element. The last letter
-    /// is the least right descent, the letter before it that of the product of the letters up to there, and so on.
+    /// The word of least right descents: as many letters as the element is long, and its product is the element. The
+    /// last letter is the least right descent, the letter before it that of the product of the letters up to there, and
+    /// so on.
     pub fn right_word(&self, alloc: Global, roots: &Roots) -> Result<Letters, AllocError>
         requires { IsElement (matrix_of roots.now) self.now }
         ensures letters { IfOk result (λ word. All (IsLetter (matrix_of roots.now).rank) word) }

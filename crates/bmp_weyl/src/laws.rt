@@ -1,6 +1,8 @@
 //! The laws of words and length, each the contract of a function without a body.
 ghost use Rattle.bmp_weyl.specs.Statements.{LengthChangesByOne, LengthAtMostLetters, LengthZeroIsIdentity, DescentIsNegativeColumn, NoDescentIsIdentity, LengthOfInverse, Exchange, Deletion, ReducedSubsequence, SubsequenceIsShorter, PrefixIsReduced, ReducedAtMost36, ReflectionIsElement, ReflectionKnowsRoot, ReflectionChangesLength};
 ghost use Rattle.bmp_weyl.specs.ElementStatements.{RootsAreSystem, ElementsOfEqualProducts, LengthOfElement};
+ghost use Rattle.bmp_weyl.specs.SimpleStatements.{TimesIsProduct, LetterTwiceCancels, TimesTwiceCancels, DescentTurns, OneDescentWord};
+ghost use Rattle.bmp_weyl.specs.Lowered.{StrongExchange, LoweredIsKept};
 ghost use Rattle.bmp_weyl.specs.LengthStatements.{WordHasOneLength, ElementHasOneLength};
 
 /// Each law of a finite root system holds of a `Roots`, with its positive roots by their numbers.
@@ -23,7 +25,8 @@ pub fn length_zero_is_identity()
     ensures { LengthZeroIsIdentity }
 {}
 
-/// A simple reflection behind a word makes the product shorter exactly where the product makes its simple root negative.
+/// A simple reflection behind a word makes the product shorter exactly where the product makes its simple root
+/// negative.
 pub fn descent_is_negative_column()
     ensures { DescentIsNegativeColumn }
 {}
@@ -101,4 +104,39 @@ pub fn word_has_one_length()
 /// Each list of the positive roots of a Cartan matrix gives an element the same length.
 pub fn element_has_one_length()
     ensures { ElementHasOneLength }
+{}
+
+/// The product of an element with a simple reflection, by words.
+pub fn times_is_product()
+    ensures { TimesIsProduct }
+{}
+
+/// The same letter twice behind a word leaves its product as it was.
+pub fn letter_twice_cancels()
+    ensures { LetterTwiceCancels }
+{}
+
+/// The same simple reflection twice behind an element leaves it as it was.
+pub fn times_twice_cancels()
+    ensures { TimesTwiceCancels }
+{}
+
+/// Of an element and its product with a simple reflection one is shorter, by one.
+pub fn descent_turns()
+    ensures { DescentTurns }
+{}
+
+/// A product has one word of least right descents.
+pub fn one_descent_word()
+    ensures { OneDescentWord }
+{}
+
+/// Where a subsequence makes a positive root negative, the reflection of that root behind it leaves a letter out.
+pub fn strong_exchange()
+    ensures { StrongExchange }
+{}
+
+/// What is below the product of a subsequence is the product of a subsequence.
+pub fn lowered_is_kept()
+    ensures { LoweredIsKept }
 {}

@@ -39,7 +39,8 @@ fn coroot_value(cartan: &Cartan, coroot: &[i16; 6], j: usize) -> i32
 fn coroot_values(cartan: &Cartan, coroot: &[i16; 6]) -> [i32; 6]
     requires form { HasCartanForm cartan.now }
     requires small { (i : ℕ) → IsWithin 32 (coordinates coroot.now i) }
-    ensures values { (j : ℕ) → slice_index_or result j (pos 0) ≡ pairing cartan.now (coordinates coroot.now) (integer_unit j) }
+    ensures values { (j : ℕ) → slice_index_or result j (pos 0) ≡ pairing cartan.now (coordinates coroot.now)
+        (integer_unit j) }
     ensures within { (j : ℕ) → IsWithin 6144 (slice_index_or result j (pos 0)) }
 {
     let rank = cartan.rank();

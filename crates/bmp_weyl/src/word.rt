@@ -15,7 +15,8 @@ pub struct BadLetter {
     pub place: u32,
 }
 
-/// The product of the simple reflections of a word, left to right, or the first place with a letter that is not 1 to the rank.
+/// The product of the simple reflections of a word, left to right, or the first place with a letter that is not 1 to
+/// the rank.
 pub fn product(roots: &Roots, word: &[u8]) -> Result<Elem, BadLetter>
     requires { length word.now < 2 ^ 32 }
     ensures product { IfOk result (λ e. IsProduct (matrix_of roots.now) (word_of word.now) e) }

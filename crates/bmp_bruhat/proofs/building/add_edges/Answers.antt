@@ -13,5 +13,6 @@ add_edge-requires-clause-reflection c =
 
 pub returns : goal.returns
 returns c =
-    HasEdgesUpTo-row (system_of c.args.interval.now) (vertices_of c.args.interval.now) c.args.x c.loop-i.i c.loop-i.edges.items c.loop-i.invariant
+    HasEdgesUpTo-row (system_of c.args.interval.now) (vertices_of c.args.interval.now) c.args.x c.loop-i.i
+    c.loop-i.edges.items c.loop-i.invariant
     (omega (arith, c.requires.reflections.as_long))

@@ -6,4 +6,5 @@ use Rattle.bmp_bruhat.proofs.building.edges_of.Goals as goal
 pub returns : goal.returns
 returns c =
     let all : c.loop-x.x ≡ length (vertices_of c.args.interval.now) = omega (arith, c.len-x-end.ensures.value) in
-    subst (λ n. HasEdgesUpTo (system_of c.args.interval.now) (vertices_of c.args.interval.now) n 0 c.loop-x.edges.items) all c.loop-x.invariant
+    subst (λ n. HasEdgesUpTo (system_of c.args.interval.now) (vertices_of c.args.interval.now) n 0 c.loop-x.edges.items)
+    all c.loop-x.invariant

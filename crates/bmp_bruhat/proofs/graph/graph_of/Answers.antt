@@ -7,6 +7,8 @@ use Rattle.bmp_bruhat.proofs.graph.graph_of.Goals as goal
 
 pub unreachable-requires : goal.unreachable-requires
 unreachable-requires c =
-    let error : IsError (system_of c.args.interval.now) (vertices_of c.args.interval.now) c.args.prime root_form (ZeroLabel c.in-ZeroLabel.lower c.in-ZeroLabel.upper) =
+    let error : IsError (system_of c.args.interval.now) (vertices_of c.args.interval.now) c.args.prime root_form
+    (ZeroLabel c.in-ZeroLabel.lower c.in-ZeroLabel.upper) =
     rw c.in-ZeroLabel.is at c.in-Err.ensures.error in
-    no_zero_root (system_of c.args.interval.now) (vertices_of c.args.interval.now) c.args.prime c.in-ZeroLabel.lower c.in-ZeroLabel.upper c.requires error
+    no_zero_root (system_of c.args.interval.now) (vertices_of c.args.interval.now) c.args.prime c.in-ZeroLabel.lower
+    c.in-ZeroLabel.upper c.requires error

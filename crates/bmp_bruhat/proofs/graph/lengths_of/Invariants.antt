@@ -7,4 +7,5 @@ use Rattle.bmp_bruhat.proofs.graph.lengths_of.Given as goal
 -- the lengths so far
 abbrev pub invariant-loop-x : goal.invariant-loop-x
 invariant-loop-x l =
-    l.lengths.items ≡ map (element_length (positive_roots_of (system_of l.interval))) (take l.x (vertices_of l.interval))
+    l.lengths.items ≡ map (element_length (positive_roots_of (system_of l.interval)))
+    (take l.x (vertices_of l.interval))

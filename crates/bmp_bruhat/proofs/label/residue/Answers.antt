@@ -12,6 +12,8 @@ returns c =
     let fits : SFits w32 c.rem_euclid.result = record { sfits = c.rem_euclid.type_inv } in
     let value : c.rem_euclid.result ≡ int_rem_euclid c.args.coordinate (pos c.args.prime) =
     c.rem_euclid.ensures.value
-    ∙ ap₂ (λ (z d : ℤ). int_rem_euclid z d) (to_z-of_z w32 c.args.coordinate c.ranges.coordinate) (to_z_pos w32 c.args.prime (omega (arith, c.ranges.prime.fits))) in
-    subst (λ (z : ℤ). IsResidue c.args.prime c.args.coordinate (nat_abs z)) (sym (to_z-of_z w32 c.rem_euclid.result fits))
+    ∙ ap₂ (λ (z d : ℤ). int_rem_euclid z d) (to_z-of_z w32 c.args.coordinate c.ranges.coordinate)
+    (to_z_pos w32 c.args.prime (omega (arith, c.ranges.prime.fits))) in
+    subst (λ (z : ℤ). IsResidue c.args.prime c.args.coordinate (nat_abs z))
+    (sym (to_z-of_z w32 c.rem_euclid.result fits))
     (residue_is c.args.prime c.args.coordinate c.rem_euclid.result c.requires.prime value)

@@ -15,7 +15,8 @@ none = record { lower = 0; upper = 0; root = 0 }
 pub root_label-requires-clause-root : goal.root_label-requires-clause-root
 root_label-requires-clause-root c =
     let read : RootEdge = get_or c.args.found.now c.loop-edge.edge-index none in
-    subst (λ (r : Roots). read.root < length (positives r)) (sym c.roots-roots.ensures) (root_within c.requires.found c.loop-edge.edge-index none c.loop-edge-test.true)
+    subst (λ (r : Roots). read.root < length (positives r)) (sym c.roots-roots.ensures)
+    (root_within c.requires.found c.loop-edge.edge-index none c.loop-edge-test.true)
 
 pub returns-in_default-clause-error : goal.returns-in_default-clause-error
 returns-in_default-clause-error c =
@@ -27,12 +28,20 @@ returns-in_default-clause-error c =
 pub loop-edge-preserved : goal.loop-edge-preserved
 loop-edge-preserved c =
     let read : RootEdge = get_or c.args.found.now c.loop-edge.edge-index none in
-    AreLabeled-more c.loop-edge.invariant _ none (record { lower = read.lower; upper = read.upper; label = c.in-Some.label }) c.loop-edge-test.true
-    (record { lower = refl; upper = refl; label = subst (IsLabelAt c.args.weight c.args.prime read.root c.in-Some.label) c.roots-roots.ensures c.in-Some.ensures })
+    AreLabeled-more c.loop-edge.invariant _ none
+    (record { lower = read.lower; upper = read.upper; label = c.in-Some.label }) c.loop-edge-test.true
+    (record {
+      lower = refl;
+      upper = refl;
+      label = subst (IsLabelAt c.args.weight c.args.prime read.root c.in-Some.label) c.roots-roots.ensures
+          c.in-Some.ensures;
+    })
     c.in_ok-push.ensures.items
 
 pub returns-clause-ok : goal.returns-clause-ok
 returns-clause-ok c =
-    let all : c.loop-edge.edge-index ≡ length c.args.found.now = omega (arith, c.loop-edge-test.false, c.loop-edge.auto.edge-index-end) in
-    subst (λ (n : ℕ). AreLabeled (system_of c.args.interval.now) c.args.prime (form_in (matrix_of (system_of c.args.interval.now)) c.args.weight) n c.args.found.now c.loop-edge.edges.items)
+    let all : c.loop-edge.edge-index ≡ length c.args.found.now =
+    omega (arith, c.loop-edge-test.false, c.loop-edge.auto.edge-index-end) in
+    subst (λ (n : ℕ). AreLabeled (system_of c.args.interval.now) c.args.prime
+    (form_in (matrix_of (system_of c.args.interval.now)) c.args.weight) n c.args.found.now c.loop-edge.edges.items)
     all c.loop-edge.invariant

@@ -6,7 +6,8 @@ use Rattle.bmp_bruhat.proofs.reflections.reflections.Goals as goal
 
 pub loop-i-preserved : goal.loop-i-preserved
 loop-i-preserved c =
-    HasReflections-more c.args.roots.now c.loop-i.i c.loop-i.reflections.items _ c.reflection.result c.loop-i.invariant c.reflection.ensures.reflection c.in_ok-push.ensures.items
+    HasReflections-more c.args.roots.now c.loop-i.i c.loop-i.reflections.items _ c.reflection.result c.loop-i.invariant
+    c.reflection.ensures.reflection c.in_ok-push.ensures.items
 
 pub returns : goal.returns
 returns c =

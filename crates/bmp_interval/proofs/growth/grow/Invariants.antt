@@ -5,4 +5,5 @@ use Rattle.bmp_interval.proofs.growth.grow.Given as goal
 
 abbrev pub invariant-loop-i : goal.invariant-loop-i
 invariant-loop-i l =
-    IsGrowing l.simple l.i l.fn.set.keys l.set.keys × (l.count ≡ length l.fn.set.keys) × (length l.set.keys ≤ max_vertices)
+    IsGrowing l.simple l.i l.fn.set.keys l.set.keys × (l.count ≡ length l.fn.set.keys) ×
+    (length l.set.keys ≤ max_vertices)

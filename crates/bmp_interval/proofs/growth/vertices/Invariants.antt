@@ -7,4 +7,5 @@ use Rattle.bmp_interval.proofs.growth.vertices.Given as goal
 
 abbrev pub invariant-loop-letter : goal.invariant-loop-letter
 invariant-loop-letter l =
-    HasVertices (matrix_of l.roots) (word_of (take l.letter-index l.word)) l.set.keys × (length l.set.keys ≤ max_vertices)
+    HasVertices (matrix_of l.roots) (word_of (take l.letter-index l.word)) l.set.keys ×
+    (length l.set.keys ≤ max_vertices)

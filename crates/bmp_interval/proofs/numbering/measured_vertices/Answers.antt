@@ -8,5 +8,6 @@ pub length-length-requires : goal.length-length-requires
 length-length-requires c =
     let none : Elem = record { rank = 0; entries = [] } in
     c.requires (get_or c.as_slice-elems.result.now c.loop-elem.elem-index none)
-    (subst (λ (es : List Elem). Member (get_or c.as_slice-elems.result.now c.loop-elem.elem-index none) es) c.as_slice-elems.ensures.keys
+    (subst (λ (es : List Elem). Member (get_or c.as_slice-elems.result.now c.loop-elem.elem-index none) es)
+    c.as_slice-elems.ensures.keys
     (member_at c.as_slice-elems.result.now c.loop-elem.elem-index none c.loop-elem-test.true))

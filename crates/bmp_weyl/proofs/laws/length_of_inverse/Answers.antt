@@ -4,4 +4,5 @@ use Rattle.bmp_weyl.proofs.ExchangeLemmas.{length-inverse}
 use Rattle.bmp_weyl.proofs.laws.length_of_inverse.Goals as goal
 
 pub returns : goal.returns
-returns c m roots system u letters = (fun_ext (λ v. acts-reverse m system.form u letters v), length-inverse m roots system u letters)
+returns c m roots system u letters =
+    (fun_ext (λ v. acts-reverse m system.form u letters v), length-inverse m roots system u letters)

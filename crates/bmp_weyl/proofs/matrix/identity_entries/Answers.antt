@@ -10,9 +10,11 @@ pub loop-place-preserved : goal.loop-place-preserved
 loop-place-preserved c =
     let fits : SFits w8 c.unit_entry.result = search rules in (
       simp length-set c.loop-place.invariant.0,
-      written c.loop-place.entries c.loop-place.place _ (λ q. integer_unit (q % 6) (q / 6)) (omega arith) c.loop-place.invariant.1
+      written c.loop-place.entries c.loop-place.place _ (λ q. integer_unit (q % 6) (q / 6)) (omega arith)
+          c.loop-place.invariant.1
           (to_z-of_z w8 c.unit_entry.result fits ∙ c.unit_entry.ensures.value),
     )
 
 pub returns-clause-cells : goal.returns-clause-cells
-returns-clause-cells c = cells_from_places (λ i j. integer_unit j i) c.loop-place.entries (λ q l. c.loop-place.invariant.1 q (omega arith))
+returns-clause-cells c =
+    cells_from_places (λ i j. integer_unit j i) c.loop-place.entries (λ q l. c.loop-place.invariant.1 q (omega arith))

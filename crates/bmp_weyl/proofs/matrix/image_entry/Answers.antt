@@ -15,11 +15,13 @@ loop-l-init c = (sym (integer_sum-zero _), (omega (arith, ints), omega (arith, i
 pub loop-l-preserved : goal.loop-l-preserved
 loop-l-preserved c =
     let first : IsWithin 32 (coordinates c.args.v.now c.loop-l.l) = c.requires.small c.loop-l.l in
-    let second : IsWithin 32 (cell c.args.entries.now c.args.i c.loop-l.l) = c.requires.cells c.args.i c.loop-l.l c.requires.row c.loop-l-test.true in
+    let second : IsWithin 32 (cell c.args.entries.now c.args.i c.loop-l.l) =
+    c.requires.cells c.args.i c.loop-l.l c.requires.row c.loop-l-test.true in
     let first_fits : SFits w16 (coordinates c.args.v.now c.loop-l.l) = omega (arith, ints) in
     let second_fits : SFits w8 (cell c.args.entries.now c.args.i c.loop-l.l) = omega (arith, ints) in (
       sum_step _ _ _ _ _ c.loop-l.invariant.0
-          (c.coordinate_product-sum.ensures.value ∙ ap₂ (λ x y. x *ℤ y) (to_z-of_z w16 _ first_fits) (to_z-of_z w8 _ second_fits))
+          (c.coordinate_product-sum.ensures.value
+          ∙ ap₂ (λ x y. x *ℤ y) (to_z-of_z w16 _ first_fits) (to_z-of_z w8 _ second_fits))
           (omega (arith, ints)),
       (omega (arith, ints), omega (arith, ints)),
     )
@@ -27,4 +29,5 @@ loop-l-preserved c =
 pub returns : goal.returns
 returns c =
     let all : c.loop-l.l ≡ 6 = omega arith in
-    c.loop-l.invariant.0 ∙ ap (λ n. integer_sum (λ k. coordinates c.args.v.now k *ℤ cell c.args.entries.now c.args.i k) n) all
+    c.loop-l.invariant.0
+    ∙ ap (λ n. integer_sum (λ k. coordinates c.args.v.now k *ℤ cell c.args.entries.now c.args.i k) n) all

@@ -3,7 +3,11 @@ use Rattle.bmp_weyl.specs.Matrices.{product_cell}
 use Rattle.bmp_weyl.proofs.matrix.product_entries.Given as goal
 
 abbrev pub invariant-loop-i : goal.invariant-loop-i
-invariant-loop-i l = (length l.entries ≡ 36) × ((q : ℕ) → q < l.i * 6 → get_or l.entries q (pos 0) ≡ product_cell l.x l.y (q / 6) (q % 6))
+invariant-loop-i l =
+    (length l.entries ≡ 36) ×
+    ((q : ℕ) → q < l.i * 6 → get_or l.entries q (pos 0) ≡ product_cell l.x l.y (q / 6) (q % 6))
 
 abbrev pub invariant-loop-j : goal.invariant-loop-j
-invariant-loop-j l = (length l.entries ≡ 36) × ((q : ℕ) → q < l.i * 6 + l.j → get_or l.entries q (pos 0) ≡ product_cell l.x l.y (q / 6) (q % 6))
+invariant-loop-j l =
+    (length l.entries ≡ 36) ×
+    ((q : ℕ) → q < l.i * 6 + l.j → get_or l.entries q (pos 0) ≡ product_cell l.x l.y (q / 6) (q % 6))

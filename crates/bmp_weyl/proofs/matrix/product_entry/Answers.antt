@@ -13,12 +13,15 @@ loop-l-init c = (sym (integer_sum-zero _), (omega (arith, ints), omega (arith, i
 
 pub loop-l-preserved : goal.loop-l-preserved
 loop-l-preserved c =
-    let first : IsWithin 32 (cell c.args.x.now c.args.i c.loop-l.l) = c.requires.x c.args.i c.loop-l.l c.requires.row c.loop-l-test.true in
-    let second : IsWithin 32 (cell c.args.y.now c.loop-l.l c.args.j) = c.requires.y c.loop-l.l c.args.j c.loop-l-test.true c.requires.column in
+    let first : IsWithin 32 (cell c.args.x.now c.args.i c.loop-l.l) =
+    c.requires.x c.args.i c.loop-l.l c.requires.row c.loop-l-test.true in
+    let second : IsWithin 32 (cell c.args.y.now c.loop-l.l c.args.j) =
+    c.requires.y c.loop-l.l c.args.j c.loop-l-test.true c.requires.column in
     let first_fits : SFits w8 (cell c.args.x.now c.args.i c.loop-l.l) = omega (arith, ints) in
     let second_fits : SFits w8 (cell c.args.y.now c.loop-l.l c.args.j) = omega (arith, ints) in (
       sum_step _ _ _ _ _ c.loop-l.invariant.0
-          (c.entry_product-sum.ensures.value ∙ ap₂ (λ x y. x *ℤ y) (to_z-of_z w8 _ first_fits) (to_z-of_z w8 _ second_fits))
+          (c.entry_product-sum.ensures.value
+          ∙ ap₂ (λ x y. x *ℤ y) (to_z-of_z w8 _ first_fits) (to_z-of_z w8 _ second_fits))
           (omega (arith, ints)),
       (omega (arith, ints), omega (arith, ints)),
     )
@@ -26,4 +29,5 @@ loop-l-preserved c =
 pub returns : goal.returns
 returns c =
     let all : c.loop-l.l ≡ 6 = omega arith in
-    c.loop-l.invariant.0 ∙ ap (λ n. integer_sum (λ k. cell c.args.x.now c.args.i k *ℤ cell c.args.y.now k c.args.j) n) all
+    c.loop-l.invariant.0 ∙ ap (λ n. integer_sum (λ k. cell c.args.x.now c.args.i k *ℤ cell c.args.y.now k c.args.j) n)
+    all

@@ -7,4 +7,5 @@ use Rattle.bmp_weyl.proofs.reflecting.coroot_value.Given as goal
 
 abbrev pub invariant-loop-i : goal.invariant-loop-i
 invariant-loop-i l =
-    (l.sum ≡ integer_sum (λ i. coordinates l.coroot i *ℤ entry l.cartan i l.j) l.i) × IsWithin (1024 * l.i) l.sum × (l.rank ≡ l.cartan.rank) × (l.rank ≤ 6)
+    (l.sum ≡ integer_sum (λ i. coordinates l.coroot i *ℤ entry l.cartan i l.j) l.i) × IsWithin (1024 * l.i) l.sum ×
+    (l.rank ≡ l.cartan.rank) × (l.rank ≤ 6)

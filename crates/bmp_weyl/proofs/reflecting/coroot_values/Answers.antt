@@ -18,8 +18,10 @@ pub loop-j-preserved : goal.loop-j-preserved
 loop-j-preserved c =
     let within : IsWithin 6144 c.coroot_value.result = c.coroot_value.ensures.within in
     let fits : SFits w32 c.coroot_value.result = omega (arith, ints) in
-    let is : to_z w32 (of_z w32 c.coroot_value.result) ≡ c.coroot_value.result = to_z-of_z w32 c.coroot_value.result fits in (
-      value_written c.args.cartan.now (coordinates c.args.coroot.now) c.loop-j.values c.loop-j.j _ (omega arith) c.loop-j.invariant.0
+    let is : to_z w32 (of_z w32 c.coroot_value.result) ≡ c.coroot_value.result =
+    to_z-of_z w32 c.coroot_value.result fits in (
+      value_written c.args.cartan.now (coordinates c.args.coroot.now) c.loop-j.values c.loop-j.j _ (omega arith)
+          c.loop-j.invariant.0
           (is ∙ c.coroot_value.ensures.value) (subst (λ z. IsWithin 6144 z) (sym is) within),
       c.loop-j.invariant.1,
       c.loop-j.invariant.2,
@@ -28,7 +30,8 @@ loop-j-preserved c =
 pub returns-clause-values : goal.returns-clause-values
 returns-clause-values c =
     all_values c.args.cartan.now (coordinates c.args.coroot.now) c.loop-j.values
-    (subst (λ n. AreValues c.args.cartan.now (coordinates c.args.coroot.now) c.loop-j.values n) (omega arith) c.loop-j.invariant.0)
+    (subst (λ n. AreValues c.args.cartan.now (coordinates c.args.coroot.now) c.loop-j.values n) (omega arith)
+    c.loop-j.invariant.0)
 
 pub returns-clause-within : goal.returns-clause-within
 returns-clause-within c = c.loop-j.invariant.0.within

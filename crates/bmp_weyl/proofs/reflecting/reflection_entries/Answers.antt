@@ -25,7 +25,8 @@ reflected_entry-requires c =
       value = subst (λ z. IsWithin 6144 z) (sym value_is) value_within;
       coordinate = subst (λ z. IsWithin 32 z) (sym coordinate_is) coordinate_within;
       fits = subst (λ z. IsWithin 32 z)
-          (sym (ap₂ (λ x y. integer_unit j i -ℤ x *ℤ y) (value_is ∙ c.coroot_values-values.ensures.values j) coordinate_is))
+          (sym (ap₂ (λ x y. integer_unit j i -ℤ x *ℤ y) (value_is ∙ c.coroot_values-values.ensures.values j)
+          coordinate_is))
           (c.requires.fits i j);
     }
 
@@ -43,11 +44,14 @@ loop-place-preserved c =
     let coordinate_is : to_z w16 (of_z w16 coordinate) ≡ coordinate = to_z-of_z w16 coordinate coordinate_fits in
     let fits : SFits w8 c.reflected_entry.result = search rules in (
       simp length-set c.loop-place.invariant.0,
-      written c.loop-place.entries c.loop-place.place _ (λ q. across c.args.cartan.now (root_pair c.args.root.now c.args.coroot.now) (integer_unit (q % 6)) (q / 6))
+      written c.loop-place.entries c.loop-place.place _
+          (λ q. across c.args.cartan.now (root_pair c.args.root.now c.args.coroot.now) (integer_unit (q % 6)) (q / 6))
           (omega arith) c.loop-place.invariant.1
           (to_z-of_z w8 c.reflected_entry.result fits ∙ c.reflected_entry.ensures
           ∙ ap₂ (λ x y. integer_unit j i -ℤ x *ℤ y) (value_is ∙ c.coroot_values-values.ensures.values j) coordinate_is),
     )
 
 pub returns-clause-cells : goal.returns-clause-cells
-returns-clause-cells c = cells_from_places (λ i j. across c.args.cartan.now (root_pair c.args.root.now c.args.coroot.now) (integer_unit j) i) c.loop-place.entries (λ q l. c.loop-place.invariant.1 q (omega arith))
+returns-clause-cells c =
+    cells_from_places (λ i j. across c.args.cartan.now (root_pair c.args.root.now c.args.coroot.now) (integer_unit j) i)
+    c.loop-place.entries (λ q l. c.loop-place.invariant.1 q (omega arith))

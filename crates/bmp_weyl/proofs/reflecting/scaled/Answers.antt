@@ -4,7 +4,17 @@ use Rattle.bmp_math.proofs.IntegerLemmas.{product_within}
 use Rattle.bmp_weyl.proofs.reflecting.scaled.Goals as goal
 
 pub overflow_mul-result : goal.overflow_mul-result
-overflow_mul-result c = grind (arith, to_z-of_z, product_within 6144 32 c.args.value c.args.coordinate c.requires.value c.requires.coordinate)
+overflow_mul-result c =
+    grind (
+      arith,
+      to_z-of_z,
+      product_within 6144 32 c.args.value c.args.coordinate c.requires.value c.requires.coordinate,
+    )
 
 pub returns-clause-within : goal.returns-clause-within
-returns-clause-within c = grind (arith, to_z-of_z, product_within 6144 32 c.args.value c.args.coordinate c.requires.value c.requires.coordinate)
+returns-clause-within c =
+    grind (
+      arith,
+      to_z-of_z,
+      product_within 6144 32 c.args.value c.args.coordinate c.requires.value c.requires.coordinate,
+    )

@@ -19,22 +19,30 @@ mul-product-requires c = record {
 
 pub loop-place-preserved : goal.loop-place-preserved
 loop-place-preserved c = (
-  subst (λ w. IsProduct (matrix_of c.args.roots.now) w c.mul-product.result) (sym (word_more c.args.word.now c.loop-place.place c.loop-place-test.true))
-      (c.mul-product.ensures.product (matrix_of c.args.roots.now) (word_of (take c.loop-place.place c.args.word.now)) _ (root_system c.args.roots.now).form c.loop-place.invariant.0 c.simple.ensures),
-  below_more (λ i. IsLetter (matrix_of c.args.roots.now).rank (get_or c.args.word.now i 0)) c.loop-place.place c.loop-place.invariant.1
+  subst (λ w. IsProduct (matrix_of c.args.roots.now) w c.mul-product.result)
+      (sym (word_more c.args.word.now c.loop-place.place c.loop-place-test.true))
+      (c.mul-product.ensures.product (matrix_of c.args.roots.now) (word_of (take c.loop-place.place c.args.word.now)) _
+      (root_system c.args.roots.now).form c.loop-place.invariant.0 c.simple.ensures),
+  below_more (λ i. IsLetter (matrix_of c.args.roots.now).rank (get_or c.args.word.now i 0)) c.loop-place.place
+      c.loop-place.invariant.1
       (c.if-letter-lt1.false, omega (arith, c.loop-place.invariant.2)),
   c.loop-place.invariant.2,
 )
 
 pub returns-clause-letters : goal.returns-clause-letters
-returns-clause-letters c = All-from_get_or (IsLetter (matrix_of c.args.roots.now).rank) c.args.word.now 0 (λ i l. c.loop-place.invariant.1 i (omega arith))
+returns-clause-letters c =
+    All-from_get_or (IsLetter (matrix_of c.args.roots.now).rank) c.args.word.now 0
+    (λ i l. c.loop-place.invariant.1 i (omega arith))
 
 pub returns-clause-at_most : goal.returns-clause-at_most
 returns-clause-at_most c =
     omega (
       arith,
-      element_length-product (matrix_of c.args.roots.now) (positive_roots_of c.args.roots.now) (root_system c.args.roots.now) (word_of (take c.loop-place.place c.args.word.now)) c.loop-place.product c.loop-place.invariant.0,
-      length_at_most (matrix_of c.args.roots.now) (positive_roots_of c.args.roots.now) (root_system c.args.roots.now) (word_of (take c.loop-place.place c.args.word.now)) c.loop-place.invariant.0.letters,
+      element_length-product (matrix_of c.args.roots.now) (positive_roots_of c.args.roots.now)
+          (root_system c.args.roots.now) (word_of (take c.loop-place.place c.args.word.now)) c.loop-place.product
+          c.loop-place.invariant.0,
+      length_at_most (matrix_of c.args.roots.now) (positive_roots_of c.args.roots.now) (root_system c.args.roots.now)
+          (word_of (take c.loop-place.place c.args.word.now)) c.loop-place.invariant.0.letters,
       length-map (take c.loop-place.place c.args.word.now) (λ letter. letter - 1),
       ap length (take_all c.loop-place.place c.args.word.now (omega arith)),
     )

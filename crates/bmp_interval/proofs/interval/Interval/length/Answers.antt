@@ -9,4 +9,5 @@ pub returns : goal.returns
 returns c d =
     c.index.ensures
     ∙ ap (λ (ns : List ℕ). get_or ns c.args.x c.index.result.now) c.args.self.now.measured
-    ∙ get_or-map (element_length (positive_roots_of (system_of c.args.self.now))) (vertices_of c.args.self.now) c.args.x d c.index.result.now c.requires
+    ∙ get_or-map (element_length (positive_roots_of (system_of c.args.self.now))) (vertices_of c.args.self.now) c.args.x
+    d c.index.result.now c.requires

@@ -19,12 +19,17 @@ loop-k-preserved c u h j l d =
     elim (cases_eq (j + 1) c.loop-k.k) [
       | inl same ↦
           let here : j ≡ c.loop-k.k - 1 = omega arith in
-          absurd (not_both c.is_right_descent.result c.if-is_right_descent.false ((c.is_right_descent.ensures u h).1 (subst (λ i. IsRightDescent (matrix_of c.args.roots.now) (positive_roots_of c.args.roots.now) u i) here d)))
+          absurd (not_both c.is_right_descent.result c.if-is_right_descent.false
+          ((c.is_right_descent.ensures u h).1
+          (subst (λ i. IsRightDescent (matrix_of c.args.roots.now) (positive_roots_of c.args.roots.now) u i) here
+          d)))
       | inr apart ↦ c.loop-k.invariant u h j (omega arith) d
     ]
 
 pub returns-clause-none : goal.returns-clause-none
 returns-clause-none c =
-    product_alike (matrix_of c.args.roots.now) c.requires.0 _ c.args.self.now c.requires.1 (All-nil (λ k. k < (matrix_of c.args.roots.now).rank))
-    (no_descent (matrix_of c.args.roots.now) (positive_roots_of c.args.roots.now) (root_system c.args.roots.now) c.requires.0 c.requires.1.letters
+    product_alike (matrix_of c.args.roots.now) c.requires.0 _ c.args.self.now c.requires.1
+    (All-nil (λ k. k < (matrix_of c.args.roots.now).rank))
+    (no_descent (matrix_of c.args.roots.now) (positive_roots_of c.args.roots.now) (root_system c.args.roots.now)
+    c.requires.0 c.requires.1.letters
     (λ k l d. c.loop-k.invariant c.requires.0 c.requires.1 k (omega (arith, c.rank-k-end.ensures.value)) d))

@@ -6,4 +6,5 @@ use Rattle.bmp_weyl.proofs.elem.Elem.least_right_descent.Given as goal
 
 abbrev pub invariant-loop-k : goal.invariant-loop-k
 invariant-loop-k l =
-    (u : List ℕ) → IsProduct (matrix_of l.roots) u l.self → (j : ℕ) → j + 1 < l.k → IsRightDescent (matrix_of l.roots) (positive_roots_of l.roots) u j → ⊥
+    (u : List ℕ) → IsProduct (matrix_of l.roots) u l.self → (j : ℕ) → j + 1 < l.k →
+    IsRightDescent (matrix_of l.roots) (positive_roots_of l.roots) u j → ⊥

@@ -13,9 +13,11 @@ product_entries-requires-clause-fits c = product_fits c.args.self.now c.args.oth
 
 pub returns-clause-product : goal.returns-clause-product
 returns-clause-product c m u w form first second =
-    product_is m form u w c.args.self.now c.args.other.now _ first second refl c.product_entries.ensures.places c.product_entries.ensures.cells
+    product_is m form u w c.args.self.now c.args.other.now _ first second refl c.product_entries.ensures.places
+    c.product_entries.ensures.cells
 
 pub returns-clause-one_letter : goal.returns-clause-one_letter
 returns-clause-one_letter c m roots k system element letter =
     element_step m roots system element.0 k c.args.self.now c.args.other.now _ element.1 letter
-    (product_is m system.form element.0 _ c.args.self.now c.args.other.now _ element.1 letter refl c.product_entries.ensures.places c.product_entries.ensures.cells)
+    (product_is m system.form element.0 _ c.args.self.now c.args.other.now _ element.1 letter refl
+    c.product_entries.ensures.places c.product_entries.ensures.cells)

@@ -7,10 +7,12 @@ use Rattle.bmp_weyl.proofs.CallLemmas.{root_system, HasLeft, all_left, rest_is_e
 use Rattle.bmp_weyl.proofs.elem.Elem.right_word.Goals as goal
 
 pub loop-k-init : goal.loop-k-init
-loop-k-init c = subst (λ (w : List ℕ). HasLeft c.args.roots.now c.args.self.now w c.args.self.now) (sym c.new-word.ensures) (all_left c.args.roots.now c.args.self.now)
+loop-k-init c = subst (λ (w : List ℕ). HasLeft c.args.roots.now c.args.self.now w c.args.self.now)
+    (sym c.new-word.ensures) (all_left c.args.roots.now c.args.self.now)
 
 pub least_right_descent-requires : goal.least_right_descent-requires
-least_right_descent-requires c = rest_is_element c.args.roots.now c.args.self.now c.loop-k.word c.loop-k.rest c.requires c.loop-k.invariant
+least_right_descent-requires c =
+    rest_is_element c.args.roots.now c.args.self.now c.loop-k.word c.loop-k.rest c.requires c.loop-k.invariant
 
 pub mul-rest-requires : goal.mul-rest-requires
 mul-rest-requires c = record {
@@ -24,14 +26,18 @@ mul-rest-requires c = record {
 pub loop-k-smaller : goal.loop-k-smaller
 loop-k-smaller c =
     next_shorter c.args.roots.now c.loop-k.rest c.in-Some.k c.mul-rest.result
-    (rest_is_element c.args.roots.now c.args.self.now c.loop-k.word c.loop-k.rest c.requires c.loop-k.invariant) c.in-Some.ensures.least
-    (λ u h. c.mul-rest.ensures.product (matrix_of c.args.roots.now) u _ (root_system c.args.roots.now).form h c.simple.ensures)
+    (rest_is_element c.args.roots.now c.args.self.now c.loop-k.word c.loop-k.rest c.requires c.loop-k.invariant)
+    c.in-Some.ensures.least
+    (λ u h. c.mul-rest.ensures.product (matrix_of c.args.roots.now) u _ (root_system c.args.roots.now).form h
+    c.simple.ensures)
 
 pub loop-k-preserved : goal.loop-k-preserved
 loop-k-preserved c =
     subst (λ (w : List ℕ). HasLeft c.args.roots.now c.args.self.now w c.mul-rest.result) (sym c.in_ok-push.ensures.ok)
-    (less_left c.args.roots.now c.args.self.now c.loop-k.word c.loop-k.rest c.in-Some.k c.mul-rest.result c.loop-k.invariant c.in-Some.ensures.letter c.in-Some.ensures.least
-    (λ u h. c.mul-rest.ensures.product (matrix_of c.args.roots.now) u _ (root_system c.args.roots.now).form h c.simple.ensures))
+    (less_left c.args.roots.now c.args.self.now c.loop-k.word c.loop-k.rest c.in-Some.k c.mul-rest.result
+    c.loop-k.invariant c.in-Some.ensures.letter c.in-Some.ensures.least
+    (λ u h. c.mul-rest.ensures.product (matrix_of c.args.roots.now) u _ (root_system c.args.roots.now).form h
+    c.simple.ensures))
 
 pub returns-clause-letters : goal.returns-clause-letters
 returns-clause-letters c =
@@ -41,14 +47,19 @@ returns-clause-letters c =
 pub returns-clause-product : goal.returns-clause-product
 returns-clause-product c =
     subst (λ (w : List ℕ). IsProduct (matrix_of c.args.roots.now) (word_of w) c.args.self.now) (sym c.reverse.ensures)
-    (none_left c.args.roots.now c.args.self.now c.loop-k.word c.loop-k.rest c.requires c.loop-k.invariant c.in_default.ensures.none).0
+    (none_left c.args.roots.now c.args.self.now c.loop-k.word c.loop-k.rest c.requires c.loop-k.invariant
+    c.in_default.ensures.none).0
 
 pub returns-clause-reduced : goal.returns-clause-reduced
 returns-clause-reduced c =
-    subst (λ (w : List ℕ). IsReduced (matrix_of c.args.roots.now) (positive_roots_of c.args.roots.now) (word_of w)) (sym c.reverse.ensures)
-    (none_left c.args.roots.now c.args.self.now c.loop-k.word c.loop-k.rest c.requires c.loop-k.invariant c.in_default.ensures.none).1
+    subst (λ (w : List ℕ). IsReduced (matrix_of c.args.roots.now) (positive_roots_of c.args.roots.now) (word_of w))
+    (sym c.reverse.ensures)
+    (none_left c.args.roots.now c.args.self.now c.loop-k.word c.loop-k.rest c.requires c.loop-k.invariant
+    c.in_default.ensures.none).1
 
 pub returns-clause-least : goal.returns-clause-least
 returns-clause-least c =
-    subst (λ (w : List ℕ). IsDescentWord (matrix_of c.args.roots.now) (positive_roots_of c.args.roots.now) (word_of w)) (sym c.reverse.ensures)
-    (none_left c.args.roots.now c.args.self.now c.loop-k.word c.loop-k.rest c.requires c.loop-k.invariant c.in_default.ensures.none).2
+    subst (λ (w : List ℕ). IsDescentWord (matrix_of c.args.roots.now) (positive_roots_of c.args.roots.now) (word_of w))
+    (sym c.reverse.ensures)
+    (none_left c.args.roots.now c.args.self.now c.loop-k.word c.loop-k.rest c.requires c.loop-k.invariant
+    c.in_default.ensures.none).2

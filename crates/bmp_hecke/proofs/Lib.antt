@@ -1,0 +1,12 @@
+pub mod GroupLemmas
+pub mod ElementSetLemmas
+pub mod CallLemmas
+pub mod RowLemmas
+pub mod BarLemmas
+pub mod WeightLemmas
+pub mod WeylLemmas
+pub mod DifferenceLemmas
+pub mod BarCallLemmas
+pub mod BasisLemmas
+pub mod LeadingLemmas
+pub mod SupportLemmas

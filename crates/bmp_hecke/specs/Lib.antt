@@ -1,0 +1,10 @@
+pub mod Laurents
+pub mod Groups
+pub mod Bars
+pub mod Weights
+pub mod WeylGroups
+pub mod DifferenceBars
+pub mod LeadingBars
+pub mod ElementSets
+pub mod Combinations
+pub mod Statements
