@@ -135,7 +135,7 @@ some_choices zero P each =
     none [] long p never = never p
     none (b ∷ choices) long p never = absurd (omega (arith, long))
 some_choices (suc n) P each =
-    elim (some_choices n (λ choices. P (true ∷ choices)) (λ choices long. each (true ∷ choices) (omega (arith, long)))) [
+    elim (some_choices n (λ choices. P (true ∷ choices)) (λ rest long. each (true ∷ rest) (omega (arith, long)))) [
       | inl r ↦ inl (true ∷ r.0, omega (arith, r.1), r.2)
       | inr no_true ↦ elim
           (some_choices n (λ choices. P (false ∷ choices))
