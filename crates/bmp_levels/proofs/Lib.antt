@@ -1,0 +1,12 @@
+pub mod Extending
+pub mod Members
+pub mod KernelVectors
+pub mod ExtendedSections
+pub mod ExtendedSpans
+pub mod ExtendedIndependence
+pub mod TopFamilies
+pub mod Families
+pub mod LevelSoundness
+pub mod GoingOn
+pub mod Comparing
+pub mod CarriedBases
