@@ -29,7 +29,7 @@ section_carries {G = G} {F = F} U d s t over wide same given e below low up =
 
 module _ {G : Graph} {F : SheafData} {k d : ℕ} {a b : TupleList} (over : IsOverField G) (wide : G.rank ≤ 6)
     (same : SameTuples G F (level_vertices G k) d a b) where
-  sections_carry :
+  pub sections_carry :
       AreSectionsOver G F (level G k) d (tuples_in G F d a) a.count →
       AreSectionsOver G F (level G k) d (tuples_in G F d b) b.count
   sections_carry sections = record {
@@ -39,7 +39,7 @@ module _ {G : Graph} {F : SheafData} {k d : ℕ} {a b : TupleList} (over : IsOve
         (sections.each j (omega (arith, is_member, same.count)));
   }
 
-  spanning_carries :
+  pub spanning_carries :
       AreSpanning G F (level G k) d (tuples_in G F d a) a.count →
       AreSpanning G F (level G k) d (tuples_in G F d b) b.count
   spanning_carries spanning = record {
@@ -54,7 +54,7 @@ module _ {G : Graph} {F : SheafData} {k d : ℕ} {a b : TupleList} (over : IsOve
         );
   }
 
-  independence_carries :
+  pub independence_carries :
       AreIndependent G F (level G k) d (tuples_in G F d a) a.count →
       AreIndependent G F (level G k) d (tuples_in G F d b) b.count
   independence_carries independence = record {

@@ -10,3 +10,8 @@ pub mod LevelSoundness
 pub mod GoingOn
 pub mod Comparing
 pub mod CarriedBases
+pub mod ColumnLemmas
+pub mod RunLemmas
+pub mod FamilyRuns
+pub mod Filling
+pub mod Keeping

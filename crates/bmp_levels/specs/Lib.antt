@@ -4,3 +4,5 @@ pub mod Families
 pub mod Bases
 pub mod Evidence
 pub mod Statements
+pub mod Runs
+pub mod Extensions

@@ -2,4 +2,14 @@
 //! the blocks of one length, and what evidence by levels says of a sheaf.
 #![tactic(auto)]
 
+mod columns;
+mod extend;
+mod family;
 pub mod laws;
+mod level_blocks;
+mod members;
+mod run;
+
+pub use family::Family;
+pub use level_blocks::LevelBlocks;
+pub use members::Members;
