@@ -146,6 +146,20 @@ module _ (G : Graph) (F : SheafData) (d top : ℕ) (block : ℕ → DegreeBlock)
       (k : ℕ) → k ≤ length_at G top → (family G F d top block k).count ≡ member_count G d top block k
   family_counted k below = counted_from (length_at G top - k) k (omega arith)
 
+  -- as many where no vertex has a length in between
+  pub same_counts :
+      (k l : ℕ) → k ≤ l → ((y : ℕ) → y < vertex_count G → k ≤ length_at G y → l ≤ length_at G y) →
+      member_count G d top block l ≡ member_count G d top block k
+  same_counts k l order gap =
+      ap (λ n. count G.rank d + n)
+      (sum_below_same (held l) (held k) (vertex_count G)
+      (λ y below. elim (cases_lt (length_at G y) k) [
+        | inl short ↦ held_short l y (omega (arith, short, order)) ∙ sym (held_short k y short)
+        | inr long ↦
+            ap (λ b. cond {A = ℕ} (b && ltb (length_at G y) (length_at G top)) (length (block y).kernel.basis) 0)
+            (le-leb l (length_at G y) (gap y below long) ∙ sym (le-leb k (length_at G y) long))
+      ]))
+
   -- ---- the first members
 
   -- a list whose first members are a family over a higher level
@@ -154,7 +168,7 @@ module _ (G : Graph) (F : SheafData) (d top : ℕ) (block : ℕ → DegreeBlock)
     same :
         SameList (level_vertices G l) (first_members (family G F d top block l).count list) (family G F d top block l)
 
-  has_family : (k y : ℕ) → k ≤ length_at G top → k ≤ length_at G y → (family G F d top block k).has y ≡ true
+  pub has_family : (k y : ℕ) → k ≤ length_at G top → k ≤ length_at G y → (family G F d top block k).has y ≡ true
   has_family k y below long = elim (cases_lt k (length_at G top)) [
     | inl short ↦
         ap (λ (l : TupleList). l.has y) (family_next k short) ∙ le-leb k (length_at G y) long
