@@ -17,3 +17,4 @@ pub mod Filling
 pub mod Keeping
 pub mod TopRuns
 pub mod WholeFamilies
+pub mod Below
