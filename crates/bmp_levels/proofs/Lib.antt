@@ -18,3 +18,4 @@ pub mod Keeping
 pub mod TopRuns
 pub mod WholeFamilies
 pub mod Below
+pub mod CountLemmas

@@ -2,6 +2,7 @@
 use Rattle.std.proofs.Common.{◌≡◌, ℕ, suc, ◌+◌, ◌-◌, ◌<◌, ◌≤◌, length, refl, sym, ap, subst, ◌∙◌, inl, inr, arith}
 use Rattle.std.proofs.lemmas.Bool.{cases_lt}
 use Rattle.std.specs.Prelude.{Bool, IsTrue}
+use Rattle.bmp_poly.specs.Exponents.{count}
 use Rattle.bmp_graph.specs.Graph.{Graph, IsGraph, vertex_count, length_at}
 use Rattle.bmp_linear.specs.declared.blocks.DegreeBlock.{DegreeBlock}
 use Rattle.bmp_sheaf.specs.Sheaves.{SheafData}
@@ -12,7 +13,7 @@ use Rattle.bmp_levels.specs.Lists.{first_members, SameList}
 use Rattle.bmp_levels.specs.Families.{family, member_count, stalk_size}
 use Rattle.bmp_levels.specs.Runs.{FamilyTable, run_at, list_of}
 use Rattle.bmp_levels.specs.Extensions.{BlockFits, HoldsLevel, LevelFits, AllFit, IsExtension}
-use Rattle.bmp_levels.proofs.Families.{family_counted, family_size, has_family, first_members_are_family, same_counts}
+use Rattle.bmp_levels.proofs.Families.{family_counted, family_size, has_family, first_members_are_family, same_sums}
 use Rattle.bmp_levels.proofs.GoingOn.{families_go_on}
 
 -- no vertex has a length from k to l - 1
@@ -30,7 +31,7 @@ module _ {G : Graph} {F : SheafData} {d top : ℕ} {block : ℕ → DegreeBlock}
   family_over_gap k l list order below gap same =
       let prefix = first_members_are_family G F d top block k l order below in
       let counts : (families l).count ≡ (families k).count =
-      family_counted G F d top block l below ∙ same_counts G F d top block k l order gap
+      family_counted G F d top block l below ∙ ap (λ n. count G.rank d + n) (same_sums G top block k l order gap)
       ∙ sym (family_counted G F d top block k (omega (arith, order, below))) in
       record {
         count = same.count ∙ counts;
