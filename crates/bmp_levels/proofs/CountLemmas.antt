@@ -8,19 +8,19 @@ use Rattle.bmp_poly.specs.Exponents.{count}
 use Rattle.bmp_graph.specs.Graph.{Graph, IsGraph, vertex_count, length_at}
 use Rattle.bmp_linear.specs.declared.blocks.DegreeBlock.{DegreeBlock}
 use Rattle.bmp_levels.specs.Families.{falling, shorter_at, member_count}
-use Rattle.bmp_levels.proofs.Members.{sum_none}
+use Rattle.bmp_levels.proofs.MemberValues.{sum_none}
 use Rattle.bmp_levels.proofs.Families.{sum_turned, held, held_level, held_short, held_sum}
 
 -- the first b vertices from the greatest down are counted
 pub record AreCounted (G : Graph) (d : ℕ) (block : ℕ → DegreeBlock) (b sum : ℕ) (counts : List ℕ) : Type 0 where
   pub sized : length counts ≡ vertex_count G
-  pub sum : sum ≡ count G.rank d + sum_below (λ z. shorter_at G (vertex_count G - 1) block (falling G z)) b
+  pub total : sum ≡ count G.rank d + sum_below (λ z. shorter_at G (vertex_count G - 1) block (falling G z)) b
   pub small : sum ≤ 462 + b * 4294967296
   pub counts :
       (x : ℕ) → x < vertex_count G → vertex_count G ≤ x + b →
       get_or counts x 0 ≡ member_count G d (vertex_count G - 1) block (suc (length_at G x))
 
-module _ {G : Graph} {d : ℕ} {block : ℕ → DegreeBlock} where
+module _ (G : Graph) (d : ℕ) (block : ℕ → DegreeBlock) where
   abbrev top : ℕ
   top = vertex_count G - 1
 
@@ -52,7 +52,7 @@ module _ {G : Graph} {d : ℕ} {block : ℕ → DegreeBlock} where
       AreCounted G d block 0 sum counts
   counted_first sum counts sized is small = record {
     sized = sized;
-    sum = omega (arith, is, sum_below-zero at_falling);
+    total = omega (arith, is, sum_below-zero at_falling);
     small = omega (arith, small);
     counts = λ x below there. absurd (omega (arith, below, there));
   }
@@ -78,7 +78,7 @@ module _ {G : Graph} {d : ℕ} {block : ℕ → DegreeBlock} where
             (number : ℕ) → number ≡ sum → (x + 1 < vertex_count G → length_at G x ≢ length_at G (x + 1)) →
             number ≡ member_count G d (vertex_count G - 1) block (suc (length_at G x))
         own number is_sum less =
-            is_sum ∙ h.sum
+            is_sum ∙ h.total
             ∙ level_sum (suc (length_at G x)) b (omega (arith, at))
             (λ y below there.
             let more : x + 1 < vertex_count G = omega (arith, below, there, at) in
@@ -96,13 +96,13 @@ module _ {G : Graph} {d : ℕ} {block : ℕ → DegreeBlock} where
         AreCounted G d block (b + 1) next (set counts x number)
     counted_more number more next number_is more_is few next_is = record {
       sized = length-set counts x number ∙ h.sized;
-      sum =
+      total =
           let turned : falling G b ≡ x = omega (arith, at) in
           omega (
             arith,
             next_is,
             more_is,
-            h.sum,
+            h.total,
             sum_below_more at_falling b,
             ap (shorter_at G (vertex_count G - 1) block) turned,
           );

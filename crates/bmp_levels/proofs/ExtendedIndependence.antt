@@ -23,9 +23,9 @@ use Rattle.bmp_levels.specs.Families.{falling, new_at, new_start, new_count}
 use Rattle.bmp_levels.specs.Bases.{SameOver, AreIndependent}
 use Rattle.bmp_levels.specs.Evidence.{ExtendsBy}
 use Rattle.bmp_levels.specs.Statements.{ExtensionKeepsIndependence}
-use Rattle.bmp_levels.proofs.Members.{falling_twice, new_at_is, new_at_none, old_members, members, all_count}
-use Rattle.bmp_levels.proofs.Members.{coordinate}
-use Rattle.bmp_levels.proofs.Members.{combined_away, combined_here}
+use Rattle.bmp_levels.proofs.MemberValues.{falling_twice, new_at_is, new_at_none, old_members, members, all_count}
+use Rattle.bmp_levels.proofs.MemberValues.{coordinate}
+use Rattle.bmp_levels.proofs.MemberValues.{combined_away, combined_here}
 use Rattle.bmp_levels.proofs.KernelVectors.{free_place, free_within, basis_unit}
 
 module _ {G : Graph} {F : SheafData} {k d : ℕ} {block : ℕ → DegreeBlock} {list : TupleList}

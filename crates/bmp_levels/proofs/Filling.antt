@@ -14,8 +14,8 @@ use Rattle.bmp_levels.specs.Families.{falling, new_at, new_start, new_count, new
 use Rattle.bmp_levels.specs.Runs.{RunTable, run_value, FamilyTable, IsFamilyTable, run_at, list_of}
 use Rattle.bmp_levels.specs.Runs.{joined_value, IsRunAdded}
 use Rattle.bmp_levels.specs.Extensions.{HoldsLevel, BlockFits, IsExtension}
-use Rattle.bmp_levels.proofs.Members.{sum_none, vector_past, new_at_is, new_at_none, new_before, new_from}
-use Rattle.bmp_levels.proofs.Members.{at_level, off_level, old_here, old_away}
+use Rattle.bmp_levels.proofs.MemberValues.{sum_none, vector_past, new_at_is, new_at_none, new_before, new_from}
+use Rattle.bmp_levels.proofs.MemberValues.{at_level, off_level, old_here, old_away}
 use Rattle.bmp_levels.proofs.RunLemmas.{joined_covers, joined_basis}
 use Rattle.bmp_levels.proofs.FamilyRuns.{has_from, later_member, one_run_more, run_stays, run_next}
 
@@ -156,6 +156,17 @@ module _ {A : Type 0} {s : SheafState A} {k d : ℕ} {block : ℕ → DegreeBloc
         ];
       }
 
+-- the same of what was added from a block that equals that of y
+pub filled_next :
+    {A : Type 0} {s : SheafState A} {k d : ℕ} {block : ℕ → DegreeBlock} {f old new : FamilyTable} {b : ℕ} (y size : ℕ)
+    (own : DegreeBlock) → IsFilled s k d block f b old → y + suc b ≡ vertex_count s.graph → length_at s.graph y ≡ k →
+    BlockFits s d f.count y (block y) → size ≡ stalk_size s.graph (sheaf_of s) d y → own ≡ block y →
+    IsRunAdded size own.cover.covers own.kernel.basis old new → IsFilled s k d block f (b + 1) new
+filled_next {s = s} {d = d} {old = old} {new = new} y size own h at here fits size_is own_is added =
+    filled_more h at here fits
+    (subst (λ n. IsRunAdded n _ _ old new) size_is
+    (subst (λ (g : DegreeBlock). IsRunAdded size g.cover.covers g.kernel.basis old new) own_is added))
+
 -- ---- the whole level
 
 module _ {A : Type 0} {s : SheafState A} {k d first : ℕ} {f : FamilyTable} (longer_held : HoldsLevel s (suc k) d f)
@@ -205,7 +216,7 @@ module _ {A : Type 0} {s : SheafState A} {k d first : ℕ} {f : FamilyTable} (lo
       sizes = λ y inside. h.sizes y inside.0 (there y inside);
     }
 
-    size : ℕ → ℕ
+    abbrev size : ℕ → ℕ
     size z = new_at s.graph k block (falling s.graph z)
 
     none_behind : sum_below (λ i. size (vertex_count s.graph - first + i)) first ≡ 0

@@ -9,9 +9,9 @@ use Rattle.bmp_linear.specs.SparseVectors.{FitsBelow}
 use Rattle.bmp_linear.specs.Evidence.{vector_at}
 use Rattle.bmp_levels.specs.Runs.{RunTable, run_value, joined_value, IsRunOf, AreColumnsWritten}
 use Rattle.bmp_levels.proofs.ColumnLemmas.{row_ends}
-use Rattle.bmp_levels.proofs.Members.{vector_past}
+use Rattle.bmp_levels.proofs.MemberValues.{vector_past}
 
-pub zeros_at : (n i : ℕ) → get_or (replicate n 0) i 0 ≡ 0
+pub zeros_at : (n i : ℕ) → ◌≡◌ {A = ℕ} (get_or (replicate n 0) i 0) 0
 zeros_at n i = elim (cases_lt i n) [
   | inl below ↦ get_or-replicate n i 0 0 below
   | inr past ↦ get_or_past (replicate n 0) i 0 (omega (arith, past, length-replicate n 0))
@@ -65,7 +65,9 @@ module _ {size before width : ℕ} {covers basis : List (List Entry)} {zeros fir
   cover_value j c below =
       h.basis_written.others c j (omega (arith, h.width_is, below)) (inl below)
       ∙ elim (cases_lt j (length covers)) [
-        | inl inside ↦ h.covers_written.own j c inside
+        | inl inside ↦
+            let at : 0 + j ≡ j = omega arith in
+            ap (λ n. get_or first (c * width + n) 0) (sym at) ∙ h.covers_written.own j c inside
         | inr past ↦
             h.covers_written.others c j (omega (arith, h.width_is, below)) (inr past)
             ∙ h.clear (c * width + j) ∙ sym (vector_past covers j c past)
@@ -94,3 +96,12 @@ module _ {size before width : ℕ} {covers basis : List (List Entry)} {zeros fir
 
   pub run_made : IsRunOf size before covers basis run
   run_made = record { size = refl; count = h.width_is; value = run_number }
+
+-- the columns of the basis are still clear when the covers are written
+pub basis_clear :
+    (width before : ℕ) (covers basis : List (List Entry)) (zeros first : List ℕ) → width ≡ before + length basis →
+    length covers ≤ before → ((i : ℕ) → get_or zeros i 0 ≡ 0) →
+    AreColumnsWritten width 0 (length covers) (vector_at covers) zeros first → (c j : ℕ) → before ≤ j →
+    j < before + length basis → get_or first (c * width + j) 0 ≡ 0
+basis_clear width before covers basis zeros first width_is few clear written c j from below =
+    written.others c j (omega (arith, width_is, below)) (inr (omega (arith, few, from))) ∙ clear (c * width + j)

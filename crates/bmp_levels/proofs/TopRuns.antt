@@ -49,7 +49,7 @@ units_fit n vs h i v below =
 pub unit_vector : (n : ℕ) (vs : List (List Entry)) → AreUnits n vs → (i c : ℕ) → i < n → vector_at vs i c ≡ unit i c
 unit_vector n vs h i c below = ap (λ v. number_at v c) (h.each i below)
 
-module _ {A : Type 0} {s : SheafState A} {d size : ℕ} {units : List (List Entry)} {none new : FamilyTable} (has : HasTop s)
+module _ {A : Type 0} {s : SheafState A} (d : ℕ) {size : ℕ} {units : List (List Entry)} {none new : FamilyTable} (has : HasTop s)
     (size_is : size ≡ count s.graph.rank d) (are : AreUnits size units) (empty : length none.runs ≡ 0)
     (vertices : none.vertices ≡ vertex_count s.graph) (counted : none.count ≡ 0)
     (added : IsRunAdded size [] units none new) where

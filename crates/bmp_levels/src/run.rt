@@ -72,14 +72,15 @@ impl Run {
     }
 
     /// The coordinate `c` of the value of the member `j`.
-    pub(crate) fn at(&self, j: u32, c: u32) -> u8
+    pub(crate) fn at(&self, j: u64, c: u64) -> u8
         requires { c < self.now.size }
         ensures { result ≡ run_value self.now j c }
     {
-        if j >= self.count {
+        let count = u64::from(self.count);
+        if j >= count {
             return 0;
         }
-        self.values[c as usize * self.count as usize + j as usize]
+        self.values[(c * count + j) as usize]
     }
 
     /// The coordinate `c` of the values, one byte for each member that was there.
