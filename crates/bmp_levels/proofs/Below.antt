@@ -1,10 +1,10 @@
 -- The values of families are below the prime where those of the blocks are; so what has their values are tuples to compare with.
-use Rattle.std.proofs.Common.{◌≡◌, ℕ, zero, suc, ◌+◌, ◌-◌, ◌<◌, ◌≤◌, Bool, true, false, refl, List, [], length, get_or}
-use Rattle.std.proofs.Common.{cond, eqb, leb, ap, subst, sym, ◌∙◌, inl, inr, arith}
-use Rattle.std.specs.Prelude.{All, IsTrue}
-use Rattle.std.proofs.lemmas.Bool.{cases_eq, cases_lt, leb-false}
+use Rattle.std.proofs.Common.{◌≡◌, ℕ, zero, suc, ◌-◌, ◌<◌, ◌≤◌, Bool, true, false, refl, List, [], length, get_or}
+use Rattle.std.proofs.Common.{cond, eqb, leb, subst, sym, ◌∙◌, inl, inr, arith}
+use Rattle.std.specs.Prelude.{All}
+use Rattle.std.proofs.lemmas.Bool.{cases_eq, cases_lt}
 use Rattle.bmp_math.specs.Vectors.{unit}
-use Rattle.bmp_graph.specs.Graph.{Graph, IsGraph, IsAbove, vertex_count, length_at}
+use Rattle.bmp_graph.specs.Graph.{Graph, IsGraph, vertex_count, length_at}
 use Rattle.bmp_graph.specs.Laws.{IsHigher}
 use Rattle.bmp_graph.proofs.GraphLemmas.{IsAbove-higher}
 use Rattle.bmp_linear.specs.declared.vector.Entry.{Entry}
@@ -14,7 +14,6 @@ use Rattle.bmp_linear.specs.Evidence.{vector_at}
 use Rattle.bmp_linear.proofs.SparseLemmas.{number_at-below}
 use Rattle.bmp_sheaf.specs.Sheaves.{SheafData}
 use Rattle.bmp_sheaf.specs.States.{SheafState, sheaf_of}
-use Rattle.bmp_sections.specs.Numbers.{is_above}
 use Rattle.bmp_sections.specs.TupleLists.{TupleList}
 use Rattle.bmp_sections.proofs.AboveLemmas.{above_from_test}
 use Rattle.bmp_cover.specs.CoverInputs.{HasTuples}

@@ -1,8 +1,8 @@
 -- Lists with the same values over a level are bases of the sections there together.
-use Rattle.std.proofs.Common.{◌≡◌, ℕ, ◌<◌, ◌≤◌, sym, ◌∙◌, arith}
-use Rattle.bmp_graph.specs.Graph.{Graph, vertex_count, lower, upper, label}
+use Rattle.std.proofs.Common.{ℕ, ◌≤◌, sym, arith}
+use Rattle.bmp_graph.specs.Graph.{Graph, lower, upper, label}
 use Rattle.bmp_sheaf.specs.Fields.{IsOverField}
-use Rattle.bmp_sheaf.specs.Elements.{SameElement, zero_element}
+use Rattle.bmp_sheaf.specs.Elements.{zero_element}
 use Rattle.bmp_sheaf.specs.Sheaves.{SheafData, Tuple, lift_of}
 use Rattle.bmp_sheaf.proofs.ElementLaws.{same_chained, same_congruent, congruent_chained}
 use Rattle.bmp_sheaf.proofs.LiftLaws.{lifts_same}

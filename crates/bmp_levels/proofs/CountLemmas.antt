@@ -1,6 +1,6 @@
 -- How many members there are over the longer vertices, by vertex from the greatest down.
 use Rattle.std.proofs.Common.{◌≡◌, ◌≢◌, ℕ, suc, ◌+◌, ◌-◌, ◌*◌, ◌<◌, ◌≤◌, List, length, get_or, set}
-use Rattle.std.proofs.Common.{refl, sym, ap, ◌∙◌, inl, inr, arith, length-set, get_or-set_same, get_or-set_other}
+use Rattle.std.proofs.Common.{sym, ap, ◌∙◌, inl, inr, arith, length-set, get_or-set_same, get_or-set_other}
 use Rattle.std.proofs.lemmas.Bool.{cases_eq, cases_lt}
 use Rattle.bmp_math.specs.Sums.{sum_below}
 use Rattle.bmp_math.proofs.SumLemmas.{sum_below_same, sum_below_joined, sum_below_more, sum_below-zero}
@@ -16,7 +16,7 @@ pub record AreCounted (G : Graph) (d : ℕ) (block : ℕ → DegreeBlock) (b sum
   pub sized : length counts ≡ vertex_count G
   pub total : sum ≡ count G.rank d + sum_below (λ z. shorter_at G (vertex_count G - 1) block (falling G z)) b
   pub small : sum ≤ 462 + b * 4294967296
-  pub counts :
+  pub each :
       (x : ℕ) → x < vertex_count G → vertex_count G ≤ x + b →
       get_or counts x 0 ≡ member_count G d (vertex_count G - 1) block (suc (length_at G x))
 
@@ -54,10 +54,10 @@ module _ (G : Graph) (d : ℕ) (block : ℕ → DegreeBlock) where
     sized = sized;
     total = omega (arith, is, sum_below-zero at_falling);
     small = omega (arith, small);
-    counts = λ x below there. absurd (omega (arith, below, there));
+    each = λ x below there. absurd (omega (arith, below, there));
   }
 
-  module _ {b x sum : ℕ} {counts : List ℕ} (is : IsGraph G) (h : AreCounted G d block b sum counts)
+  module _ (x : ℕ) {b sum : ℕ} {counts : List ℕ} (is : IsGraph G) (h : AreCounted G d block b sum counts)
       (at : x + suc b ≡ vertex_count G) where
     -- a vertex as long as the next greater one, or one that is shorter
     pub count_is :
@@ -67,7 +67,7 @@ module _ (G : Graph) (d : ℕ) (block : ℕ → DegreeBlock) where
     count_is number same shorter = elim (cases_lt (x + 1) (vertex_count G)) [
       | inl more ↦ elim (cases_eq (length_at G x) (length_at G (x + 1))) [
         | inl equal ↦
-            same more equal ∙ h.counts (x + 1) more (omega (arith, at))
+            same more equal ∙ h.each (x + 1) more (omega (arith, at))
             ∙ ap (λ n. member_count G d (vertex_count G - 1) block (suc n)) (sym equal)
         | inr less ↦ own number (shorter (λ m. less)) (λ m. less)
       ]
@@ -107,12 +107,12 @@ module _ (G : Graph) (d : ℕ) (block : ℕ → DegreeBlock) where
             ap (shorter_at G (vertex_count G - 1) block) turned,
           );
       small = omega (arith, next_is, few, h.small);
-      counts = λ y below there. elim (cases_eq y x) [
+      each = λ y below there. elim (cases_eq y x) [
         | inl same ↦
             ap (λ n. get_or (set counts x number) n 0) same
             ∙ get_or-set_same counts x number 0 (omega (arith, at, h.sized)) ∙ number_is
             ∙ ap (λ n. member_count G d (vertex_count G - 1) block (suc (length_at G n))) (sym same)
         | inr other ↦
-            get_or-set_other counts x y number 0 other ∙ h.counts y below (omega (arith, there, at, other))
+            get_or-set_other counts x y number 0 other ∙ h.each y below (omega (arith, there, at, other))
       ];
     }

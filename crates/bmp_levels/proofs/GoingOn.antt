@@ -6,12 +6,11 @@ use Rattle.bmp_math.proofs.SumLemmas.{sum_below_same}
 use Rattle.bmp_graph.specs.Graph.{Graph, vertex_count, length_at}
 use Rattle.bmp_linear.specs.declared.blocks.DegreeBlock.{DegreeBlock}
 use Rattle.bmp_linear.specs.Evidence.{vector_at}
-use Rattle.bmp_sheaf.specs.Sheaves.{SheafData}
 use Rattle.bmp_sections.specs.TupleLists.{TupleList}
 use Rattle.bmp_levels.specs.Levels.{level_vertices}
-use Rattle.bmp_levels.specs.Lists.{sized, SameList}
+use Rattle.bmp_levels.specs.Lists.{SameList}
 use Rattle.bmp_levels.specs.Families.{falling, new_at, new_start, new_count, new_value}
-use Rattle.bmp_levels.specs.Families.{extended, extended_value, stalk_size, family}
+use Rattle.bmp_levels.specs.Families.{extended_value, family}
 use Rattle.bmp_levels.specs.Statements.{FamiliesGoOn}
 use Rattle.bmp_levels.proofs.MemberValues.{new_at_is, new_at_none, at_level, off_level, here_value, away_value}
 use Rattle.bmp_levels.proofs.Families.{family_next, family_size}

@@ -1,5 +1,5 @@
 -- The run of a vertex, made from covers and a basis.
-use Rattle.std.proofs.Common.{◌≡◌, ℕ, ◌+◌, ◌-◌, ◌*◌, ◌<◌, ◌≤◌, List, length, get_or, cond, leb, ltb, replicate}
+use Rattle.std.proofs.Common.{◌≡◌, ℕ, ◌+◌, ◌-◌, ◌*◌, ◌<◌, ◌≤◌, List, length, get_or, leb, ltb, replicate}
 use Rattle.std.proofs.Common.{refl, sym, ap, ◌∙◌, inl, inr, arith}
 use Rattle.std.specs.Prelude.{All}
 use Rattle.std.proofs.lemmas.Bool.{cases_lt, cond-true, cond-false, le-leb, lt-leb, lt-ltb, le-ltb}
@@ -14,7 +14,7 @@ use Rattle.bmp_levels.proofs.MemberValues.{vector_past}
 pub zeros_at : (n i : ℕ) → ◌≡◌ {A = ℕ} (get_or (replicate n 0) i 0) 0
 zeros_at n i = elim (cases_lt i n) [
   | inl below ↦ get_or-replicate n i 0 0 below
-  | inr past ↦ get_or_past (replicate n 0) i 0 (omega (arith, past, length-replicate n 0))
+  | inr past ↦ get_or_past (replicate n 0) i 0 (omega (arith, past, length-replicate {A = ℕ} n 0))
 ]
 
 -- the entries of vectors that fit have rows
@@ -49,18 +49,15 @@ module _ (before : ℕ) (covers basis : List (List Entry)) (j : ℕ) where
       (cond-true {A = ℕ → ℕ} (leb before j) (vector_at basis (j - before)) (vector_at covers j) (le-leb before j from))
 
 -- rows of `width` zeros, into which the covers were written and then the basis
-pub record AreFilled (size before width : ℕ) (covers basis : List (List Entry)) (zeros first values : List ℕ) : Type 0 where
+pub record AreFilled (before width : ℕ) (covers basis : List (List Entry)) (zeros first values : List ℕ) : Type 0 where
   pub width_is : width ≡ before + length basis
   pub few : length covers ≤ before
   pub clear : (i : ℕ) → get_or zeros i 0 ≡ 0
   pub covers_written : AreColumnsWritten width 0 (length covers) (vector_at covers) zeros first
   pub basis_written : AreColumnsWritten width before (length basis) (vector_at basis) first values
 
-module _ {size before width : ℕ} {covers basis : List (List Entry)} {zeros first values : List ℕ}
-    (h : AreFilled size before width covers basis zeros first values) where
-  abbrev run : RunTable
-  run = record { size = size; count = width; values = values }
-
+module _ {before width : ℕ} {covers basis : List (List Entry)} {zeros first values : List ℕ}
+    (h : AreFilled before width covers basis zeros first values) where
   cover_value : (j c : ℕ) → j < before → get_or values (c * width + j) 0 ≡ vector_at covers j c
   cover_value j c below =
       h.basis_written.others c j (omega (arith, h.width_is, below)) (inl below)
@@ -69,7 +66,7 @@ module _ {size before width : ℕ} {covers basis : List (List Entry)} {zeros fir
             let at : 0 + j ≡ j = omega arith in
             ap (λ n. get_or first (c * width + n) 0) (sym at) ∙ h.covers_written.own j c inside
         | inr past ↦
-            h.covers_written.others c j (omega (arith, h.width_is, below)) (inr past)
+            h.covers_written.others c j (omega (arith, h.width_is, below)) (inr (omega (arith, past)))
             ∙ h.clear (c * width + j) ∙ sym (vector_past covers j c past)
       ]
 
@@ -79,23 +76,30 @@ module _ {size before width : ℕ} {covers basis : List (List Entry)} {zeros fir
       ap (λ n. get_or values (c * width + n) 0) (sym rest)
       ∙ h.basis_written.own (j - before) c (omega (arith, h.width_is, below, from))
 
-  run_number : (j c : ℕ) → run_value run j c ≡ joined_value before covers basis j c
-  run_number j c = elim (cases_lt j before) [
-    | inl old ↦
-        run_value_at run j c (omega (arith, h.width_is, old)) ∙ cover_value j c old
-        ∙ sym (joined_covers before covers basis j c old)
-    | inr new ↦ elim (cases_lt j width) [
-      | inl inside ↦
-          run_value_at run j c inside ∙ basis_value j c new inside ∙ sym (joined_basis before covers basis j c new)
-      | inr past ↦
-          run_value_past run j c past
-          ∙ sym (joined_basis before covers basis j c new
-          ∙ vector_past basis (j - before) c (omega (arith, h.width_is, past)))
-    ]
+  pub filled_value : (j c : ℕ) → j < width → get_or values (c * width + j) 0 ≡ joined_value before covers basis j c
+  filled_value j c below = elim (cases_lt j before) [
+    | inl old ↦ cover_value j c old ∙ sym (joined_covers before covers basis j c old)
+    | inr new ↦ basis_value j c new below ∙ sym (joined_basis before covers basis j c new)
   ]
 
-  pub run_made : IsRunOf size before covers basis run
-  run_made = record { size = refl; count = h.width_is; value = run_number }
+-- ---- the run with these numbers
+
+pub run_made :
+    (size before width : ℕ) (covers basis : List (List Entry)) (values : List ℕ) → width ≡ before + length basis →
+    ((j c : ℕ) → j < width → get_or values (c * width + j) 0 ≡ joined_value before covers basis j c) →
+    IsRunOf size before covers basis (record { size = size; count = width; values = values })
+run_made size before width covers basis values width_is each = record {
+  size = refl;
+  count = width_is;
+  value = λ j c. elim (cases_lt j width) [
+    | inl inside ↦
+        run_value_at (record { size = size; count = width; values = values }) j c inside ∙ each j c inside
+    | inr past ↦
+        run_value_past (record { size = size; count = width; values = values }) j c past
+        ∙ sym (joined_basis before covers basis j c (omega (arith, past, width_is))
+        ∙ vector_past basis (j - before) c (omega (arith, past, width_is)))
+  ];
+}
 
 -- the columns of the basis are still clear when the covers are written
 pub basis_clear :

@@ -1,7 +1,7 @@
 -- The family over all vertices in memory, level by level; lengths may have gaps.
 use Rattle.std.proofs.Common.{◌≡◌, ℕ, suc, ◌+◌, ◌-◌, ◌<◌, ◌≤◌, length, refl, sym, ap, subst, ◌∙◌, inl, inr, arith}
 use Rattle.std.proofs.lemmas.Bool.{cases_lt}
-use Rattle.std.specs.Prelude.{Bool, IsTrue}
+use Rattle.std.specs.Prelude.{Bool}
 use Rattle.bmp_poly.specs.Exponents.{count}
 use Rattle.bmp_graph.specs.Graph.{Graph, IsGraph, vertex_count, length_at}
 use Rattle.bmp_linear.specs.declared.blocks.DegreeBlock.{DegreeBlock}
@@ -10,10 +10,10 @@ use Rattle.bmp_sheaf.specs.States.{SheafState, sheaf_of}
 use Rattle.bmp_sections.specs.TupleLists.{TupleList}
 use Rattle.bmp_levels.specs.Levels.{level_vertices}
 use Rattle.bmp_levels.specs.Lists.{first_members, SameList}
-use Rattle.bmp_levels.specs.Families.{family, member_count, stalk_size}
-use Rattle.bmp_levels.specs.Runs.{FamilyTable, run_at, list_of}
+use Rattle.bmp_levels.specs.Families.{family, member_count}
+use Rattle.bmp_levels.specs.Runs.{FamilyTable, list_of}
 use Rattle.bmp_levels.specs.Extensions.{BlockFits, HoldsLevel, LevelFits, AllFit, IsExtension}
-use Rattle.bmp_levels.proofs.Families.{family_counted, family_size, has_family, first_members_are_family, same_sums}
+use Rattle.bmp_levels.proofs.Families.{family_counted, family_size, first_members_are_family, same_sums}
 use Rattle.bmp_levels.proofs.GoingOn.{families_go_on}
 
 -- no vertex has a length from k to l - 1

@@ -1,11 +1,11 @@
-use Rattle.std.proofs.Common.{◌≡◌, ◌∙◌, ◌-◌, ◌<◌, length, ap, sym, subst, arith}
-use Rattle.bmp_graph.specs.Graph.{Graph, vertex_count, length_at}
+use Rattle.std.proofs.Common.{◌≡◌, ◌-◌, ◌<◌, ◌≤◌, length, ap, sym, subst, arith}
+use Rattle.bmp_graph.specs.Graph.{vertex_count, length_at}
 use Rattle.bmp_sheaf.specs.States.{sheaf_of}
 use Rattle.bmp_levels.specs.Levels.{level_vertices}
 use Rattle.bmp_levels.specs.Lists.{SameList}
 use Rattle.bmp_levels.specs.Runs.{list_of}
 use Rattle.bmp_levels.proofs.Families.{family_top}
-use Rattle.bmp_levels.proofs.WholeFamilies.{next_holds, next_fits, made_more, fewer_left, all_holds, all_families}
+use Rattle.bmp_levels.proofs.WholeFamilies.{next_holds, next_fits, made_more, all_holds, all_families}
 use Rattle.bmp_levels.proofs.family.Family.of_blocks.Goals as goal
 
 pub loop-graph-init : goal.loop-graph-init
@@ -23,13 +23,63 @@ loop-graph-init g c =
     }
 
 pub extend_level-requires-clause-longer : goal.extend_level-requires-clause-longer
-extend_level-requires-clause-longer g c = ?
+extend_level-requires-clause-longer g c =
+    let few : length c.loop-graph.family.runs < vertex_count c.args.sheaf.now.graph =
+    omega (
+      arith,
+      c.loop-graph-test.true,
+      c.vertices.ensures.count,
+      c.vertices-in-loop-graph.ensures.count,
+      ap vertex_count c.graph-graph.ensures.graph,
+    ) in
+    let next : c.next_length-k.result
+    ≡ length_at c.args.sheaf.now.graph (vertex_count c.args.sheaf.now.graph - 1 - length c.loop-graph.family.runs) =
+    subst (λ G. c.next_length-k.result ≡ length_at G (vertex_count G - 1 - length c.loop-graph.family.runs))
+    c.graph-graph.ensures.graph c.next_length-k.ensures in
+    next_holds c.graph-graph.ensures.state.over.is_graph c.loop-graph.invariant few next
 
 pub extend_level-requires-clause-blocks : goal.extend_level-requires-clause-blocks
-extend_level-requires-clause-blocks g c = ?
+extend_level-requires-clause-blocks g c =
+    let few : length c.loop-graph.family.runs < vertex_count c.args.sheaf.now.graph =
+    omega (
+      arith,
+      c.loop-graph-test.true,
+      c.vertices.ensures.count,
+      c.vertices-in-loop-graph.ensures.count,
+      ap vertex_count c.graph-graph.ensures.graph,
+    ) in
+    let next : c.next_length-k.result
+    ≡ length_at c.args.sheaf.now.graph (vertex_count c.args.sheaf.now.graph - 1 - length c.loop-graph.family.runs) =
+    subst (λ G. c.next_length-k.result ≡ length_at G (vertex_count G - 1 - length c.loop-graph.family.runs))
+    c.graph-graph.ensures.graph c.next_length-k.ensures in
+    next_fits c.graph-graph.ensures.state.over.is_graph c.loop-graph.invariant few next
+    (g.B.LevelBlocks.has c.args.blocks.now) c.requires.blocks
 
 pub loop-graph-preserved : goal.loop-graph-preserved
-loop-graph-preserved g c = ?
+loop-graph-preserved g c =
+    let few : length c.loop-graph.family.runs < vertex_count c.args.sheaf.now.graph =
+    omega (
+      arith,
+      c.loop-graph-test.true,
+      c.vertices.ensures.count,
+      c.vertices-in-loop-graph.ensures.count,
+      ap vertex_count c.graph-graph.ensures.graph,
+    ) in
+    let next : c.next_length-k.result
+    ≡ length_at c.args.sheaf.now.graph (vertex_count c.args.sheaf.now.graph - 1 - length c.loop-graph.family.runs) =
+    subst (λ G. c.next_length-k.result ≡ length_at G (vertex_count G - 1 - length c.loop-graph.family.runs))
+    c.graph-graph.ensures.graph c.next_length-k.ensures in
+    made_more c.graph-graph.ensures.state.over.is_graph c.loop-graph.invariant few next c.in_ok-family-2.ensures.holds
+    c.in_ok-family-2.ensures.extended
 
-pub returns-clause-families : goal.returns-clause-families
-returns-clause-families g c = ?
+pub returns : goal.returns
+returns g c =
+    let all : vertex_count c.args.sheaf.now.graph ≤ length c.loop-graph.family.runs =
+    omega (
+      arith,
+      c.loop-graph-test.false,
+      c.vertices.ensures.count,
+      c.vertices-in-loop-graph.ensures.count,
+      ap vertex_count c.graph-graph.ensures.graph,
+    ) in
+    record { holds = all_holds c.loop-graph.invariant all; families = all_families c.loop-graph.invariant all }

@@ -1,4 +1,4 @@
-use Rattle.std.proofs.Common.{ℕ, ◌-◌, length}
+use Rattle.std.proofs.Common.{◌-◌, length}
 use Rattle.bmp_graph.specs.Graph.{vertex_count}
 use Rattle.bmp_levels.proofs.WholeFamilies.{IsPartial}
 use Rattle.bmp_levels.proofs.family.Family.of_blocks.Given as goal
