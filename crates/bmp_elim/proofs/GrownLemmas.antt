@@ -2,7 +2,7 @@
 use Rattle.std.proofs.Common.{◌≡◌, ◌≢◌, ℕ, zero, suc, ◌+◌, ◌-◌, ◌*◌, ◌%◌, ◌<◌, ◌≤◌, List, [], ◌∷◌, ◌++◌, length, get_or, inl, inr, refl, sym, ap, ap₂, ◌∙◌, subst, cond, eqb, eq-eqb, ne_eqb, arith}
 use Rattle.std.specs.List.Sorted.{IsStrictlyIncreasing}
 use Rattle.std.specs.List.{All}
-use Rattle.std.proofs.Math.Nat.{mod-eq_of_lt, zero-mod, mod-mod}
+use Rattle.std.proofs.Math.Nat.{mod-eq_of_lt, zero-mod, mod-mod, mod-lt}
 use Rattle.std.proofs.lemmas.Bool.{cases_eq, cases_lt, cond-true, cond-false}
 use Rattle.std.proofs.lemmas.List.{get_or_push, get_or_append_left, length-append}
 use Rattle.std.proofs.lemmas.List.Elements.{All-push}
@@ -13,10 +13,13 @@ use Rattle.bmp_math.specs.Matrices.{Matrix, NumbersBelow, SameMatrix, combinatio
 use Rattle.bmp_math.proofs.CongruenceLemmas.{same_add, same_mul, same_cancel, same_past, same_below, mul_zero, zero_mul}
 use Rattle.bmp_math.proofs.SumLemmas.{sum_below_more, sum_below_same, sum_below-zero, sum_below-suc, sum_below-zeros, sum_below-add, sum_below-mul, sum_same_mod, sum_zero_mod, sum_only_mod}
 use Rattle.bmp_math.proofs.MatrixLemmas.{combination-combination}
+use Rattle.bmp_linear.specs.declared.vector.Entry.{Entry}
+use Rattle.bmp_linear.specs.SparseVectors.{IsSparse, FitsBelow, number_at}
 use Rattle.bmp_linear.specs.RowChanges.{IsRowPushed}
+use Rattle.bmp_linear.proofs.RowVectorLemmas.{values_from_numbers}
 use Rattle.bmp_elim.specs.Traces.{IsTrace}
 use Rattle.bmp_elim.specs.Extensions.{AreChosen}
-use Rattle.bmp_elim.specs.GrowingBases.{chosen_rows, narrowed, IsRowCombination, HasLeading, IsGrown, IsRemainder, IsFirstPlace, IsPivotPushed}
+use Rattle.bmp_elim.specs.GrowingBases.{chosen_rows, narrowed, IsRowCombination, HasLeading, IsGrown, IsRemainder, IsFirstPlace, IsMultiplied, IsPivotPushed, IsNegated, WritesRow}
 use Rattle.bmp_elim.proofs.GrowthLemmas.{extended, combination_more, leading_narrow}
 
 -- a term goes to the other side as its minus
@@ -628,3 +631,39 @@ longer xs x same =
     let count : length (xs ++ x ∷ []) ≡ length xs + 1 = simp length-append refl in
     let equal : length (xs ++ x ∷ []) ≡ length xs = ap length same in
     absurd (omega (arith, count))
+
+-- numbers times the minus of one, as a vector
+pub negated_made : {p n minus one : ℕ} {numbers made : List ℕ} {v : List Entry} → 2 ≤ p → one ≡ 1 → minus < p →
+    (one + minus) % p ≡ 0 → IsMultiplied p minus numbers made → n ≤ length numbers → IsSparse v → FitsBelow v n →
+    ((j : ℕ) → j < n → number_at v j ≡ get_or made j 0) → IsNegated p n numbers v
+negated_made {p} {n} {minus} {one} {numbers} {made} {v} two is_one below none multiplied room sparse fits same =
+    let largest : SameMod p minus (p - 1) =
+    let whole : minus + 1 ≡ one + minus = omega (arith, is_one) in
+    let past : (p - 1) + 1 ≡ 0 + p * 1 = omega arith in
+    same_cancel p minus (p - 1) 1
+    (ap (λ z. z % p) whole ∙ none ∙ sym (zero-mod p) ∙ sym (ap (λ z. z % p) past ∙ same_past p 0 1)) in
+    record {
+      fits = fits;
+      below = values_from_numbers p n v sparse fits (λ j l. rw (same j l, multiplied.multiplied j (omega arith)) (mod-lt
+          (minus * get_or numbers j 0) (omega arith)));
+      negated = λ j l.
+          ap (λ z. z % p) (same j l ∙ multiplied.multiplied j (omega arith)) ∙ mod-mod (minus * get_or numbers j 0) p
+          ∙ same_mul p minus (p - 1) (get_or numbers j 0) (get_or numbers j 0) largest refl;
+    }
+
+-- the negated factors write the row
+pub writes_made : {p : ℕ} {old : Matrix} {chosen u : List ℕ} {v : ℕ → ℕ} {x : List Entry} →
+    SameVector p old.cols v (combination (λ l. (p - 1) * get_or u l 0) (chosen_rows chosen old).entry (length chosen)) →
+    IsNegated p (length chosen) u x → WritesRow p old chosen v x
+writes_made {p} {old} {chosen} {u} {v} {x} written negated =
+    let C = chosen_rows chosen old in
+    record {
+      fits = negated.fits;
+      below = negated.below;
+      sums = λ j l.
+          written j l
+          ∙ sym (sum_same_mod p (λ k. number_at x k * C.entry k j) (λ k. ((p - 1) * get_or u k 0) * C.entry k j) (length
+          chosen)
+          (λ k m. same_mul p (number_at x k) ((p - 1) * get_or u k 0) (C.entry k j) (C.entry k j) (negated.negated k m)
+          refl));
+    }

@@ -262,11 +262,13 @@ fn written<F: Field, A: Rows<F> + Drop>(
 {
     row.spread(numbers);
     reduce_row(f, &basis.rows, &basis.trace, &basis.pivots, numbers, factors);
-    if first_place(numbers).is_some() {
-        return Ok(None);
+    match first_place(numbers) {
+        Some(_) => Ok(None),
+        None => {
+            let vector = negated_vector(alloc, f, factors, basis.chosen.len())?;
+            Ok(Some(vector))
+        }
     }
-    let vector = negated_vector(alloc, f, factors, basis.chosen.len())?;
-    Ok(Some(vector))
 }
 
 /// The numbers by which the chosen rows combine to a row, one for each, or nothing where none do.
