@@ -17,6 +17,8 @@ use Rattle.bmp_linear.specs.Evidence.{EvidenceFits, EvidenceBelow, vector_at}
 use Rattle.bmp_linear.specs.KernelChecks.{KernelCompares}
 use Rattle.bmp_linear.proofs.ShapeLemmas.{all_from_index}
 use Rattle.bmp_linear.proofs.FreeLemmas.{length-free_places, free_place_below}
+use Rattle.bmp_linear.proofs.KernelSpans.{basis_in_kernel, kernel_independent, kernel_spans}
+use Rattle.bmp_elim.specs.Eliminations.{IsEvidenceOf}
 use Rattle.bmp_elim.specs.Echelons.{IsEchelon, IsReducedBelow}
 use Rattle.bmp_elim.specs.Traces.{IsTrace}
 use Rattle.bmp_linear.specs.RowVectors.{IsRowVector}
@@ -122,3 +124,13 @@ module _ (p : ℕ) (old a t : Matrix) (ps : List ℕ) (basis rows : List (List E
       ∙ ap (λ j. combination (vector_at rows k) old.entry old.rows j % p) c.at_pivot.5
       ∙ row_pivot k s c.at_pivot.2 c.at_pivot.3
       ∙ sym c.at_pivot.7
+
+  pub evidence_made : IsEvidenceOf p old evidence
+  evidence_made = record {
+    fits = evidence_fits;
+    below = evidence_below;
+    passes = evidence_passes;
+    kernel = basis_in_kernel p old evidence evidence_passes;
+    independent = kernel_independent p old evidence evidence_fits evidence_passes;
+    spans = kernel_spans p old evidence two evidence_fits evidence_passes;
+  }

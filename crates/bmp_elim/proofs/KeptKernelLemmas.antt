@@ -16,7 +16,7 @@ use Rattle.bmp_elim.specs.FreeVectors.{IsFreeVector, IsBasisBelow}
 use Rattle.bmp_elim.specs.KeptColumns.{kept_columns}
 use Rattle.bmp_elim.proofs.FreeVectorLemmas.{has_place_at, has_no_place, not_place}
 use Rattle.bmp_elim.proofs.KeptColumnLemmas.{IsKeptFrom, kept_early, kept_count, kept_trace, kept_echelon}
-use Rattle.bmp_elim.proofs.EvidenceLemmas.{evidence_fits, evidence_below, evidence_passes}
+use Rattle.bmp_elim.proofs.EvidenceLemmas.{evidence_made}
 
 -- free places of places that are equally taken
 free_equally : (ps qs : List ℕ) (n : ℕ) → ((j : ℕ) → j < n → has_place qs j ≡ has_place ps j) →
@@ -123,13 +123,6 @@ module _ {p : ℕ} {old a t : Matrix} {ps : List ℕ} {split start : ℕ} {chose
       AreRowVectors p t 0 (length ps) rows →
       IsEvidenceOf p (kept_columns split chosen old) (record { pivots = kept; basis = basis; rows = rows })
   kernel_made basis rows two free made =
-      let old_columns : Matrix = kept_columns split chosen old in
-      let vectors : IsBasisBelow p columns kept columns.cols basis = basis_kept basis free in
       let as_many : AreRowVectors p t 0 (length kept) rows = rw h.choice.pivots.one_for_each made in
-      record {
-        fits = evidence_fits p old_columns columns t kept basis rows two (kept_trace h) (kept_echelon h) vectors as_many;
-        below = evidence_below p old_columns columns t kept basis rows two (kept_trace h) (kept_echelon h) vectors
-            as_many;
-        passes = evidence_passes p old_columns columns t kept basis rows two (kept_trace h) (kept_echelon h) vectors
-            as_many;
-      }
+      evidence_made p (kept_columns split chosen old) columns t kept basis rows two (kept_trace h) (kept_echelon h)
+      (basis_kept basis free) as_many

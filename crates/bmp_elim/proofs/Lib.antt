@@ -15,3 +15,5 @@ pub mod ReducedFormLemmas
 pub mod LawLemmas
 pub mod KeptColumnLemmas
 pub mod KeptKernelLemmas
+pub mod GrowthLemmas
+pub mod GrownLemmas

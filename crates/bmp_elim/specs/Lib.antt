@@ -10,3 +10,4 @@ pub mod Columns
 pub mod Laws
 pub mod KeptColumns
 pub mod Eliminations
+pub mod GrowingBases

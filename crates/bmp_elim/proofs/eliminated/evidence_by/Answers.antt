@@ -1,7 +1,7 @@
 use Rattle.std.proofs.Common.{◌≤◌, length, subst}
 use Rattle.bmp_elim.specs.RowVectors.{AreRowVectors}
 use Rattle.bmp_elim.specs.FreeVectors.{IsBasisBelow}
-use Rattle.bmp_elim.proofs.EvidenceLemmas.{evidence_fits, evidence_below, evidence_passes}
+use Rattle.bmp_elim.proofs.EvidenceLemmas.{evidence_made}
 use Rattle.bmp_elim.proofs.eliminated.evidence_by.Goals as goal
 
 pub returns : goal.returns
@@ -14,12 +14,5 @@ returns g c = λ old reduced.
     let basis : IsBasisBelow p (g.A.Rows.matrix e.rows) e.pivots (g.A.Rows.matrix e.rows).cols c.in_ok-basis.basis =
     subst (λ n. IsBasisBelow p (g.A.Rows.matrix e.rows) e.pivots n c.in_ok-basis.basis) c.cols.ensures c.in_ok-basis.ensures in
     rw c.in_ok-pivots.ensures
-    (record {
-      fits = evidence_fits p old (g.A.Rows.matrix e.rows) (g.A.Rows.matrix e.trace) e.pivots c.in_ok-basis.basis
-          c.in_ok-combinations.combinations two reduced.trace reduced.echelon basis rows;
-      below = evidence_below p old (g.A.Rows.matrix e.rows) (g.A.Rows.matrix e.trace) e.pivots c.in_ok-basis.basis
-          c.in_ok-combinations.combinations two reduced.trace reduced.echelon basis rows;
-      passes = evidence_passes p old (g.A.Rows.matrix e.rows) (g.A.Rows.matrix e.trace) e.pivots
-          c.in_ok-basis.basis c.in_ok-combinations.combinations two reduced.trace reduced.echelon
-          basis rows;
-    })
+    (evidence_made p old (g.A.Rows.matrix e.rows) (g.A.Rows.matrix e.trace) e.pivots c.in_ok-basis.basis
+    c.in_ok-combinations.combinations two reduced.trace reduced.echelon basis rows)
