@@ -100,6 +100,6 @@ module _ (width start : ℕ) (number : ℕ → ℕ → ℕ) (old : List ℕ) whe
           one.others c (start + t) (omega arith) (λ same. other (omega arith)) ∙ h.own t c (omega arith)
     ];
     others = λ c j below apart.
-        one.others c j below (λ same. elim apart [ | inl before ↦ omega arith | inr after ↦ omega arith ])
-        ∙ h.others c j below (elim apart [ | inl before ↦ inl before | inr after ↦ inr (omega arith) ]);
+        one.others c j below (λ same. elim apart [ inl before ↦ omega arith | inr after ↦ omega arith ])
+        ∙ h.others c j below (elim apart [ inl before ↦ inl before | inr after ↦ inr (omega arith) ]);
   }

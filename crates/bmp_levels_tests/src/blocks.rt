@@ -3,7 +3,9 @@ ghost use Rattle.std.specs.Prelude.{◌≡◌, ◌<◌, nat_lt, IsTrue, length};
 ghost use Rattle.bmp_levels_tests.specs.VertexBlocks.{block_in};
 
 use bmp_levels::LevelBlocks;
-use bmp_linear::{Blocks, CoverEvidence, DegreeBlock, Entry, KernelEvidence, Places, Vector, Vectors};
+use bmp_linear::{
+    Blocks, CoverEvidence, DegreeBlock, Entry, KernelEvidence, Places, Vector, Vectors,
+};
 use std::alloc::{AllocError, Global};
 
 /// A vector's places and values.

@@ -134,7 +134,11 @@ fn compare(rt: HostRuntime, graph: &MomentGraph, rows: &[Row]) -> Result<(), Fai
         let family = Family::of_blocks(alloc, &sheaf, d, &blocks)?;
         for y in 0..sheaf.graph().vertices() {
             let values = values_at(alloc, &sheaf, d, &family, family.count(), y)?;
-            assert_eq!(rt; values.len(), row.values[y as usize].len(), "degree {d}, vertex {y}");
+            assert_eq!(rt;
+                values.len(),
+                row.values[y as usize].len(),
+                "degree {d}, vertex {y}"
+            );
             for (found, wanted) in values.iter().zip(row.values[y as usize]) {
                 assert_eq!(rt; found.as_slice(), *wanted, "degree {d}, vertex {y}");
             }

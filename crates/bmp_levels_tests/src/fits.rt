@@ -53,13 +53,7 @@ fn fit_below(vectors: &Vectors, n: u32) -> bool
 }
 
 /// Whether a block has at most `count` covers, and they and its basis fit.
-fn block_fits(
-    sheaf: &Sheaf<PrimeField>,
-    d: u32,
-    count: u64,
-    x: u32,
-    block: &DegreeBlock,
-) -> bool
+fn block_fits(sheaf: &Sheaf<PrimeField>, d: u32, count: u64, x: u32, block: &DegreeBlock) -> bool
     requires there { IsThere sheaf.now x }
     requires degree { d ≤ sheaf.now.degree }
     ensures { IsTrue result → BlockFits sheaf.now d count x block.now }
@@ -72,12 +66,7 @@ fn block_fits(
 }
 
 /// Whether that is so at each vertex but the greatest, where `counts` has the numbers of members over the longer vertices.
-pub fn all_fit(
-    sheaf: &Sheaf<PrimeField>,
-    d: u32,
-    blocks: &VertexBlocks,
-    counts: &[u64],
-) -> bool
+pub fn all_fit(sheaf: &Sheaf<PrimeField>, d: u32, blocks: &VertexBlocks, counts: &[u64]) -> bool
     requires degree { d ≤ sheaf.now.degree }
     requires there { (x : ℕ) → x < vertex_count sheaf.now.graph → IsThere sheaf.now x }
     requires vertices { length counts.now ≡ vertex_count sheaf.now.graph }

@@ -3,9 +3,11 @@ ghost use Rattle.std.specs.Prelude.{◌≡◌, ◌≤◌, ◌+◌, [], ◌∷◌
 ghost use Rattle.bmp_poly.specs.Exponents.{IsMonomial};
 ghost use Rattle.bmp_module.specs.FreeModules.{rank_of, degrees_of};
 
-use bmp_field::PrimeField;
-use bmp_field::Field;
-use bmp_module::{Coordinates, Free, GradedModule, Linear, ModuleMap, NormalTable, Projection, Quotient, TabledQuotient, Tuple};
+use bmp_field::{Field, PrimeField};
+use bmp_module::{
+    Coordinates, Free, GradedModule, Linear, ModuleMap, NormalTable, Projection, Quotient,
+    TabledQuotient, Tuple,
+};
 use bmp_poly::Label;
 use std::alloc::{AllocError, Global};
 use std::test::Fail;
@@ -166,16 +168,48 @@ fn elements_modulo_a_label(rt: HostRuntime) -> Result<(), Fail> {
     let nothing = sum.zero(alloc, &f, 1)?;
     let rows = [
         ("x and y", apart, false),
-        ("x and twice y", projection.same(alloc, &f, &first, &second)?, true),
+        (
+            "x and twice y",
+            projection.same(alloc, &f, &first, &second)?,
+            true,
+        ),
         ("images", quotient.same(&f, &image, &twice), true),
         ("zero", quotient.same(&f, &image, &zero), false),
         ("free", acts(alloc, &f, &free, x, &one, &first)?, true),
-        ("quotient", acts(alloc, &f, &quotient, x, &own, &twice)?, true),
+        (
+            "quotient",
+            acts(alloc, &f, &quotient, x, &own, &twice)?,
+            true,
+        ),
         ("table", acts(alloc, &f, &tabled, x, &own, &twice)?, true),
-        ("past the table", acts(alloc, &f, &past, x, &own, &twice)?, true),
-        ("nothing", acts(alloc, &f, &sum, x, &sum.zero(alloc, &f, 0)?, &nothing)?, true),
-        ("into the quotient", sends(alloc, &f, &free, &quotient, own, &first, &twice)?, true),
-        ("into nothing", sends(alloc, &f, &free, &sum, sum.zero(alloc, &f, 0)?, &first, &nothing)?, true),
+        (
+            "past the table",
+            acts(alloc, &f, &past, x, &own, &twice)?,
+            true,
+        ),
+        (
+            "nothing",
+            acts(alloc, &f, &sum, x, &sum.zero(alloc, &f, 0)?, &nothing)?,
+            true,
+        ),
+        (
+            "into the quotient",
+            sends(alloc, &f, &free, &quotient, own, &first, &twice)?,
+            true,
+        ),
+        (
+            "into nothing",
+            sends(
+                alloc,
+                &f,
+                &free,
+                &sum,
+                sum.zero(alloc, &f, 0)?,
+                &first,
+                &nothing,
+            )?,
+            true,
+        ),
     ];
     for (name, found, want) in rows {
         assert_eq!(rt; found, want, "{name}");

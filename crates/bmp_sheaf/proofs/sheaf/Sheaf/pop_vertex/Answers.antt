@@ -22,8 +22,7 @@ returns g c =
     let all : length (map stalk_in inside.stalks.items) ≡ length c.args.self.now.stalks = ap (λ (z : SheafState g.row.F.Denot). length z.stalks) c.self.view_is in
     let some : 0 < length inside.stalks.items = omega (arith, all, c.self.invariant.stalks.as_many, c.requires) in
     let less : length c.pop.new.self.items < length inside.stalks.items = omega (arith, ap length c.pop.ensures.rest, length-take (vec_len inside.stalks - 1) inside.stalks.items, some) in
-    let u = popped inside.stalks.items c.pop.new.self.items c.pop.result c.pop.ensures.items some less in
-    (
+    let u = popped inside.stalks.items c.pop.new.self.items c.pop.result c.pop.ensures.items some less in (
       stalk_in u.0,
       sym c.self.view_is ∙ ap (state_of inside.graph inside.field inside.degree) u.1
           ∙ ap (λ ys. record { graph = inside.graph; field = inside.field; degree = inside.degree; stalks = ys }) (map_push stalk_in c.pop.new.self.items u.0),
