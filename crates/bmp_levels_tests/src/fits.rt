@@ -66,19 +66,9 @@ fn block_fits(sheaf: &Sheaf<PrimeField>, d: u32, count: u64, x: u32, block: &Deg
     fit_below(&block.cover.covers, size as u32) && fit_below(&block.kernel.basis, size as u32)
 }
 
-<<<<<<< HEAD
-/// Whether that is so at each vertex but the greatest, where `counts` has the numbers of members over the longer vertices.
-pub fn all_fit(sheaf: &Sheaf<PrimeField>, d: u32, blocks: &VertexBlocks, counts: &[u64]) -> bool
-=======
 /// Whether that is so at each vertex but the greatest, where `counts` has the numbers of members over the longer
 /// vertices.
-pub fn all_fit(
-    sheaf: &Sheaf<PrimeField>,
-    d: u32,
-    blocks: &VertexBlocks,
-    counts: &[u64],
-) -> bool
->>>>>>> wip-levels
+pub fn all_fit(sheaf: &Sheaf<PrimeField>, d: u32, blocks: &VertexBlocks, counts: &[u64]) -> bool
     requires degree { d ≤ sheaf.now.degree }
     requires there { (x : ℕ) → x < vertex_count sheaf.now.graph → IsThere sheaf.now x }
     requires vertices { length counts.now ≡ vertex_count sheaf.now.graph }
