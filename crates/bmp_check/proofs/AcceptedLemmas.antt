@@ -18,7 +18,8 @@ use Rattle.bmp_cover.specs.BradenMacPherson.{IsTopVertex}
 use Rattle.bmp_cert.specs.declared.cert.Cert.{Cert}
 use Rattle.bmp_cert.specs.CertGrammar.{HavePartLines}
 use Rattle.bmp_cert.specs.Counts.{written_by}
-use Rattle.bmp_check.specs.Accepted.{IsAccepted, IsCheckable, AcceptedIsCheckable, top_vertex}
+use Rattle.bmp_check.specs.BlockData.{top_vertex}
+use Rattle.bmp_check.specs.Accepted.{IsAccepted, IsCheckable, AcceptedIsCheckable}
 
 -- ---- the greatest element of an interval
 

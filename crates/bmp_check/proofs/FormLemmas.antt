@@ -12,7 +12,7 @@ use Rattle.bmp_cert.specs.VectorGrammar.{MOST, IsEntry, behind_place, IsVector, 
 use Rattle.bmp_cert.specs.BlockGrammar.{IsBlock}
 use Rattle.bmp_cert.specs.CertGrammar.{from_degree, step_up, step_down, AreDegrees, IsTop, IsPart, IsPartAt, HavePartLines}
 use Rattle.bmp_cert.proofs.RowLemmas.{all_from_chain}
-use Rattle.bmp_check.specs.Sizes.{no_block}
+use Rattle.bmp_check.specs.BlockData.{no_block}
 
 -- ---- a member of a chain
 

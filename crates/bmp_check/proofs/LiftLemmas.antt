@@ -15,6 +15,7 @@ use Rattle.bmp_cert.specs.CertGrammar.{IsPart}
 use Rattle.bmp_check.specs.Sizes.{Size, is, at_most, need, listed, lift_size}
 use Rattle.bmp_check.specs.SizeLists.{size_in}
 use Rattle.bmp_check.specs.SizeTables.{IsReady}
+use Rattle.bmp_check.specs.declared.method.Method.{Method}
 use Rattle.bmp_check.specs.declared.sizes.SizeTable.{SizeTable}
 use Rattle.bmp_check.proofs.FormLemmas.{degrees_most, part_formed}
 
@@ -65,7 +66,7 @@ pub record StandsIn (sizes : List Size) (i : ℕ) (size : Size) : Type 0 where
   pub within : i < length sizes
   pub read : size ≡ get_or sizes i size
 
-module _ (G : Graph) (c : Written) (t : SizeTable) (x from to : ℕ) (part : VertexPart) (ready : IsReady G c t) (graph : IsGraph G) (range : IsUpRange G x from to) (vertex : x + 1 < vertex_count G) (is_part : part ≡ part_of c x) where
+module _ (G : Graph) (c : Written) (t : SizeTable) (x from to : ℕ) (part : VertexPart) {m : Method} (ready : IsReady G m c t) (graph : IsGraph G) (range : IsUpRange G x from to) (vertex : x + 1 < vertex_count G) (is_part : part ≡ part_of c x) where
   -- what holds of the size of the edges, from the numbers at hand
   pub edges_as : (P : List Size → Type 0) (m n : ℕ) → m ≡ part.edges → n ≡ to - from → P (is m n ∷ []) → P (is (part_of c x).edges (up_count G x) ∷ [])
   edges_as P m n left right h =

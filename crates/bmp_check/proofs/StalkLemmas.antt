@@ -20,6 +20,7 @@ use Rattle.bmp_sheaf.specs.declared.fault.SheafFault.{SheafFault}
 use Rattle.bmp_sheaf.specs.declared.fault.SheafFault.TheVariants.{DegreeOrder, DegreeOverBound, LiftShape, Memory}
 use Rattle.bmp_cert.specs.Counts.{Written, no_part, part_of}
 use Rattle.bmp_cert.specs.declared.cert.VertexPart.{VertexPart}
+use Rattle.bmp_check.specs.declared.method.Method.{Method}
 use Rattle.bmp_check.specs.Accepted.{IsCheckable}
 use Rattle.bmp_check.specs.Fits.{DegreesFit, ShapesFit}
 use Rattle.bmp_check.specs.Shaped.{cert_stalk}
@@ -53,7 +54,7 @@ no_edges_up G is x last =
     ∙ sum_below-zeros (edge_count G)
 
 module _
-    {F : Type 0} (s : SheafState F) (c : Written) (checkable : IsCheckable s.graph 1 c) (counted : CountPasses s.graph c) (fits : ShapesFit s.graph c)
+    {F : Type 0} (s : SheafState F) (c : Written) {v : ℕ} {m : Method} (checkable : IsCheckable s.graph v c) (counted : CountPasses s.graph c) (fits : ShapesFit s.graph m c)
     (degree : s.degree ≡ c.degree) (i : ℕ) (stalks : s.stalks ≡ map cert_stalk (take i c.parts)) (more : i < length c.parts) where
   abbrev G : Graph
   G = s.graph

@@ -1,6 +1,5 @@
 -- What can be checked, and what passing gives. In the order to read:
 --   IsVersion v         the evidence has a version that is known
---   top_vertex G        the greatest vertex
 --   IsCheckable G v c   G is a moment graph over a field of the list, of rank 1 to 6 and at most 4,096 vertices, whose last vertex
 --                       alone is the longest; the degree bound is at most 6, and the parts have lines
 --   PassedIsBradenMacPherson
@@ -24,14 +23,12 @@ use Rattle.bmp_cert.specs.Counts.{Written, written_by}
 use Rattle.bmp_cert.specs.JobGraphs.{IsJobGraph}
 use Rattle.bmp_cert.specs.JobRules.{KeepsRules}
 use Rattle.bmp_check.specs.declared.refusal.Refusal.{Refusal}
+use Rattle.bmp_check.specs.BlockData.{top_vertex}
 use Rattle.bmp_check.specs.PartsSheaf.{parts_sheaf}
 use Rattle.bmp_check.specs.Verdicts.{Passes, IsFirstRefusal}
 
 abbrev pub IsVersion : ℕ → Type 0
 IsVersion v = v ≡ 1
-
-abbrev pub top_vertex : Graph → ℕ
-top_vertex G = vertex_count G - 1
 
 pub record IsCheckable (G : Graph) (v : ℕ) (c : Written) : Type 0 where
   pub version : IsVersion v
