@@ -1,6 +1,9 @@
 pub mod AnswerLemmas
 pub mod RowLemmas
+pub mod LatticePairs
 pub mod JobPairs
+pub mod VectorPairs
+pub mod BlockPairs
 pub mod CertPairs
 pub mod JobPrinting
 pub mod VectorLemmas
@@ -8,6 +11,7 @@ pub mod PartLemmas
 pub mod CountLemmas
 pub mod RuleLemmas
 pub mod SystemLemmas
+pub mod LabelLemmas
 pub mod GraphLemmas
 pub mod FormedLemmas
 pub mod CertPrinting

@@ -1,10 +1,12 @@
+pub mod Limits
+pub mod Versions
 pub mod Answers
+pub mod LatticeGrammar
 pub mod JobGrammar
 pub mod VectorGrammar
 pub mod BlockGrammar
 pub mod CertGrammar
 pub mod Counts
-pub mod Limits
 pub mod JobGraphs
 pub mod JobRules
 pub mod JobViews
