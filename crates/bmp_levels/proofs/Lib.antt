@@ -1,0 +1,17 @@
+pub mod Extending
+pub mod Members
+pub mod KernelVectors
+pub mod ExtendedSections
+pub mod ExtendedSpans
+pub mod ExtendedIndependence
+pub mod TopFamilies
+pub mod Families
+pub mod LevelSoundness
+pub mod GoingOn
+pub mod Comparing
+pub mod CarriedBases
+pub mod ColumnLemmas
+pub mod RunLemmas
+pub mod FamilyRuns
+pub mod Filling
+pub mod Keeping

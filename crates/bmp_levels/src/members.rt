@@ -1,0 +1,58 @@
+//! The first members of a family.
+ghost use Rattle.std.specs.Prelude.{◌≡◌, ℕ, ◌+◌, ◌*◌, ◌^◌, ◌<◌, ◌≤◌, IsTrue, length, slice_index};
+ghost use Rattle.bmp_levels.specs.Lists.{first_members};
+ghost use Rattle.bmp_levels.specs.Runs.{list_of};
+
+use crate::family::Family;
+use bmp_sections::Sections;
+
+/// The first members of a family, as a list of tuples. It keeps none of them.
+#[derive(Drop)]
+pub struct Members<'a> {
+    family: &'a Family,
+    count: u32,
+    ghost within: { count ≤ family.now.count },
+}
+
+impl<'a> Members<'a> {
+    /// The first `n` members.
+    pub fn first(family: &'a Family, n: u32) -> Members<'a>
+        requires { n ≤ family.now.count }
+        ensures family { result.family.now ≡ family.now }
+        ensures count { result.count ≡ n }
+    {
+        Members { family, count: n }
+    }
+
+    /// Adds `factor` times the coordinate `c` of the value at `y` of each member to the sums, one for each member.
+    pub fn add_coordinate(&self, y: u32, c: u32, factor: u8, sums: &mut [u16])
+        requires vertex { IsTrue ((list_of self.now.family.now).has y) }
+        requires coordinate { c < (list_of self.now.family.now).size y }
+        requires members { length sums.old ≡ self.now.count }
+        requires room { (j : ℕ) → j < self.now.count
+            → slice_index sums.old j + factor * (list_of self.now.family.now).value j y c < 2 ^ 16 }
+        ensures added { (j : ℕ) → j < self.now.count
+            → slice_index sums.new j ≡ slice_index sums.old j + factor * (list_of self.now.family.now).value j y c }
+        ensures members { length sums.new ≡ length sums.old }
+    {
+        for (sum, number) in sums.iter_mut().zip(self.family.run(y).coordinate(c)) {
+            *sum += u16::from(factor) * u16::from(*number);
+        }
+    }
+}
+
+impl<'a> Sections for Members<'a> {
+    ghost list = { λ m. first_members m.count (list_of m.family.now) };
+
+    fn count(&self) -> u64 {
+        u64::from(self.count)
+    }
+
+    fn size(&self, y: u32) -> u64 {
+        u64::from(self.family.run(y).size())
+    }
+
+    fn at(&self, j: u64, y: u32, c: u64) -> u8 {
+        self.family.run(y).at(j as u32, c as u32)
+    }
+}
