@@ -1,8 +1,8 @@
 -- What sizes that pass say, and what follows for the evidence of a block and the lifts of a vertex.
-use Rattle.std.proofs.Common.{◌≡◌, ◌≢◌, ℕ, zero, suc, ◌+◌, ◌-◌, ◌*◌, ◌<◌, ◌≤◌, Bool, true, false, cond, eqb, leb, List, [], ◌∷◌, ◌++◌, length, get_or, None, refl, sym, ap, subst, ◌∙◌, inl, inr, arith, eqb-true, leb-true}
+use Rattle.std.proofs.Common.{◌≡◌, ◌≢◌, ℕ, zero, suc, ◌+◌, ◌-◌, ◌*◌, ◌<◌, ◌≤◌, Bool, true, false, cond, eqb, leb, List, [], ◌∷◌, ◌++◌, length, get_or, None, refl, sym, ap, subst, ◌∙◌, inl, inr, arith, eqb-true, leb-true, ne_eqb, true≢false}
 use Rattle.std.specs.List.{All}
 use Rattle.std.specs.List.Sorted.{IsNonDecreasing}
-use Rattle.std.proofs.lemmas.Bool.{cases_Bool, cases_eq}
+use Rattle.std.proofs.lemmas.Bool.{cases_Bool, cases_eq, cond-false}
 use Rattle.std.proofs.lemmas.Option.{none-some}
 use Rattle.std.proofs.lemmas.List.Elements.{All-nil, All-cons, All-weaker, All-get_or}
 use Rattle.bmp_text.specs.Printing.{ChainFits}
@@ -19,6 +19,7 @@ use Rattle.bmp_check.specs.Comparisons.{first_failure}
 use Rattle.bmp_check.specs.declared.method.Method.{Method}
 use Rattle.bmp_check.specs.declared.method.Method.TheVariants.{Spaces, Levels}
 use Rattle.bmp_check.specs.declared.sizes.BlockSizes.{BlockSizes}
+use Rattle.bmp_check.specs.Methods.{method_of}
 use Rattle.bmp_check.specs.BlockData.{block_of}
 use Rattle.bmp_check.specs.Sizes.{Size, is, at_most, listed, lift_size, vertex_sizes, each_at_most, counts_at, largest, limit, pivot_sizes, kernel_sizes, cover_sizes, last_size, block_sizes, shape_sizes, size_comparison, numbered}
 use Rattle.bmp_check.specs.Verdicts.{HasBlock, CountPasses, ShapePasses}
@@ -111,18 +112,29 @@ module _ (most : ℕ) where
 
 -- ---- a vertex and a block
 
-module _ {G : Graph} {c : Written} (formed : HavePartLines (G.prime - 1) c.degree c.parts) (counted : CountPasses G c) where
+by_levels : Method → Bool
+by_levels Spaces = false
+by_levels Levels = true
+
+-- evidence by whole spaces is of version 1
+spaces_version : (v : ℕ) → method_of v ≡ Spaces → v ≡ 1
+spaces_version v is = elim (cases_eq v 1) [
+  | inl first ↦ first
+  | inr other ↦ absurd (true≢false (sym (ap by_levels (sym is ∙ cond-false {A = Method} (eqb v 1) Spaces Levels (ne_eqb v 1 other)))))
+]
+
+module _ {G : Graph} {v : ℕ} {c : Written} (formed : HavePartLines v (G.prime - 1) c.degree c.parts) (counted : CountPasses G c) where
   abbrev least : ℕ
   least = G.prime - 1
 
-  part_here : (x : ℕ) → x + 1 < vertex_count G → IsPart least c.degree x (part_of c x)
+  part_here : (x : ℕ) → x + 1 < vertex_count G → IsPart v least c.degree x (part_of c x)
   part_here x vertex = part_formed least c formed x (omega (arith, counted))
 
   module _ (x d : ℕ) (block : HasBlock G c x d) where
     abbrev b : DegreeBlock
     b = block_of c x d
 
-    text : IsBlock least (generator_count c x) d b
+    text : IsBlock v least (generator_count c x) d b
     text = block_formed least (c.degree + 1) _ (part_of c x).blocks d (part_here x block.0).blocks (omega (arith, block.1))
 
     -- vectors of the grammar whose sizes hold
@@ -151,28 +163,31 @@ module _ {G : Graph} {c : Written} (formed : HavePartLines (G.prime - 1) c.degre
           cover_for_each = as_many;
           source_for_each = text.sources.0;
           dual_for_each = text.duals.0;
-          covers = vectors_in least G.prime n.stalk (length b.kernel.basis) b.cover.covers refl text.covers (each_fits b.cover.covers n.stalk covers.0);
+          covers = vectors_in least G.prime n.stalk (length b.cover.covers) b.cover.covers refl text.covers (each_fits b.cover.covers n.stalk covers.0);
           sources = vectors_in least G.prime n.tuples (generator_count c x d) b.cover.sources refl text.sources (each_fits b.cover.sources n.tuples others.0);
           duals = vectors_in least G.prime n.boundary (generator_count c x d) b.cover.duals refl text.duals (each_fits b.cover.duals n.boundary others.1);
           few = omega arith;
         }
 
     -- by whole spaces the grammar has a cover for each section; by levels their number is compared
-    block_fits : (m : Method) → AllHold (block_sizes G m c x d) → BlockFits G m c x d
-    block_fits Spaces h =
+    block_fits : (m : Method) → (m ≡ Spaces → v ≡ 1) → AllHold (block_sizes G m c x d) → BlockFits G m c x d
+    block_fits Spaces first h =
         let n = counts_at G Spaces c x d in
         let pivots = hold-append (pivot_sizes n b.kernel) (kernel_sizes n b.kernel ++ (cover_sizes n b.cover ++ last_size n)) h in
         let kernel = hold-append (kernel_sizes n b.kernel) (cover_sizes n b.cover ++ last_size n) pivots.1 in
         let cover = hold-append (cover_sizes n b.cover) (last_size n) kernel.1 in
-        in_sizes n pivots.0 kernel.0 cover.0 text.covers.0 cover.1.0
-    block_fits Levels h =
+        in_sizes n pivots.0 kernel.0 cover.0 (text.as_many (first refl)) cover.1.0
+    block_fits Levels first h =
         let n = counts_at G Levels c x d in
         let pivots = hold-append (pivot_sizes n b.kernel) (cover_sizes n b.cover ++ (kernel_sizes n b.kernel ++ last_size n)) h.1 in
         let cover = hold-append (cover_sizes n b.cover) (kernel_sizes n b.kernel ++ last_size n) pivots.1 in
         let kernel = hold-append (kernel_sizes n b.kernel) (last_size n) cover.1 in
         in_sizes n pivots.0 kernel.0 cover.0 h.0 kernel.1.0
 
-  module _ {m : Method} (passes : ShapePasses G m c) where
+  module _ (passes : ShapePasses G (method_of v) c) where
+    abbrev m : Method
+    m = method_of v
+
     all_sizes : (x d : ℕ) → HasBlock G c x d → AllHold (shape_sizes G m c x d)
     all_sizes x d block = all_hold x d (shape_sizes G m c x d) 0 (passes x d block)
 
@@ -207,7 +222,7 @@ module _ {G : Graph} {c : Written} (formed : HavePartLines (G.prime - 1) c.degre
       top = degrees_fit c.degree (part_of c (vertex_count G - 1)).degrees (degrees_formed least c formed (vertex_count G - 1) (omega (arith, formed.some, counted)));
       vertices = vertex_fits;
       there = λ x d block. let all = (part_here x block.0).blocks.0 in omega (arith, all, block.1);
-      blocks = λ x d block. block_fits x d block m (own_sizes x d block);
+      blocks = λ x d block. block_fits x d block m (spaces_version v) (own_sizes x d block);
     }
 
 pub shape_fits : ShapeGivesFits

@@ -55,7 +55,7 @@ pub at_block :
 at_block {G} {v} {c} whole x d block =
     let fits : ShapesFit G (method_of v) c = shapes_fit whole.checkable.formed whole.count whole.shape in
     record {
-      over = over_field G v c whole.checkable;
+      over = over_field whole.checkable.on;
       counted = whole.count;
       of = whole.sheaf;
       block = block;

@@ -5,6 +5,7 @@ pub mod SizeLemmas
 pub mod NeedLemmas
 pub mod SizeCheckLemmas
 pub mod FormLemmas
+pub mod TupleCountLemmas
 pub mod LiftLemmas
 pub mod ShapeLemmas
 pub mod FitLemmas
@@ -12,6 +13,7 @@ pub mod SheafLemmas
 pub mod StalkLemmas
 pub mod InputLemmas
 pub mod RoomLemmas
+pub mod NumberLemmas
 pub mod WholeLemmas
 pub mod CheckableLemmas
 pub mod AcceptedLemmas

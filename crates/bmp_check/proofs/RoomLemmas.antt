@@ -4,10 +4,16 @@ use Rattle.bmp_graph.specs.Graph.{Graph, vertex_count}
 use Rattle.bmp_sheaf.specs.Sheaves.{SheafData}
 use Rattle.bmp_sheaf.specs.Coordinates.{stalk_count, boundary_count}
 use Rattle.bmp_sheaf.specs.States.{SheafState, IsRoom}
+use Rattle.bmp_cover.specs.BradenMacPherson.{IsTopVertex}
 use Rattle.bmp_cert.specs.Counts.{Written}
 use Rattle.bmp_check.specs.declared.scratch.BlockScratch.{BlockScratch}
 use Rattle.bmp_check.specs.declared.sizes.BlockSizes.{BlockSizes}
+use Rattle.bmp_check.specs.declared.given.Given.{Given}
 use Rattle.bmp_check.specs.declared.method.Method.{Method}
+use Rattle.bmp_check.specs.declared.sizes.SizeTable.{SizeTable}
+use Rattle.bmp_check.specs.BlockData.{top_vertex}
+use Rattle.bmp_check.specs.ShapedViews.{method_in, written_in}
+use Rattle.bmp_check.specs.SizeTables.{AreSizesOf}
 use Rattle.bmp_check.specs.PartsSheaf.{parts_sheaf}
 use Rattle.bmp_check.specs.Sizes.{counts_at, largest}
 use Rattle.bmp_check.specs.Shaped.{IsSheafOf, HasWidth, IsRoomFor}
@@ -50,8 +56,21 @@ written_room G c counted s of n room x d vertex degree =
     as_written G c counted s of (λ (H : Graph) (S : SheafData). (stalk_count H.rank (S.degrees x) d ≤ n) × (boundary_count H S x d ≤ n))
     (room d degree x (is_there G c counted s of x vertex))
 
--- the sizes of a block from the table
-pub own_within :
-    (G : Graph) (m : Method) (c : Written) (x d : ℕ) (n : BlockSizes) → n ≡ counts_at G m c x d → (rows most : ℕ) → n.rows ≤ rows →
-    largest n ≤ most → IsWithin G m c rows most x d
-own_within G m c x d n is rows most few small = subst (λ (k : BlockSizes). (k.rows ≤ rows) × (largest k ≤ most)) is (few, small)
+-- what the calls on shaped parts read is what they are about
+module _ {G H : Graph} {own g : Given} (graph : H ≡ G) (given : g ≡ own) where
+  pub table_of : {t u : SizeTable} → t ≡ u → AreSizesOf G (method_in own) (written_in own) u → AreSizesOf H (method_in g) (written_in g) t
+  table_of {t} {u} table h =
+      subst (λ (K : Graph). AreSizesOf K (method_in g) (written_in g) t) (sym graph)
+      (subst (λ (e : Given). AreSizesOf G (method_in e) (written_in e) t) (sym given)
+      (subst (λ (v : SizeTable). AreSizesOf G (method_in own) (written_in own) v) (sym table) h))
+
+  pub own_within :
+      (x d : ℕ) (n : BlockSizes) → n ≡ counts_at H (method_in g) (written_in g) x d → (rows most : ℕ) → n.rows ≤ rows → largest n ≤ most →
+      IsWithin G (method_in own) (written_in own) rows most x d
+  own_within x d n is rows most few small =
+      let here : n ≡ counts_at G (method_in own) (written_in own) x d =
+      is ∙ ap (λ (K : Graph). counts_at K (method_in g) (written_in g) x d) graph ∙ ap (λ (e : Given). counts_at G (method_in e) (written_in e) x d) given in
+      subst (λ (k : BlockSizes). (k.rows ≤ rows) × (largest k ≤ most)) here (few, small)
+
+pub top_of : {G H : Graph} → H ≡ G → IsTopVertex G (top_vertex G) → IsTopVertex H (top_vertex H)
+top_of graph top = subst (λ (K : Graph). IsTopVertex K (top_vertex K)) (sym graph) top

@@ -64,9 +64,9 @@ pub record IsSoundBase (G : Graph) (m : Method) (c : Written) : Type 0 where
 
 base_of : (G : Graph) (v : ℕ) (c : Written) → IsCheckable G v c → Passes G v c → IsSoundBase G (method_of v) c
 base_of G v c checkable passes = record {
-  over = over_field G v c checkable;
-  small = checkable.few_variables;
-  is_top = checkable.last_is_top;
+  over = over_field checkable.on;
+  small = checkable.on.few_variables;
+  is_top = checkable.on.last_is_top;
   top_stalk = subst (λ n. (part_of c (n - 1)).degrees ≡ 0 ∷ []) passes.count (top_degrees c passes.top);
   fits = shapes_fit checkable.formed passes.count passes.shape;
   blocks = passes.blocks;
@@ -144,5 +144,5 @@ passed_generators_are_bounded G v c checkable passes x g within below =
 
 pub passed_counts_are_dimensions : PassedCountsAreDimensions
 passed_counts_are_dimensions G v c checkable passes =
-    let field : IsOverField G = over_field G v c checkable in
-    counts_are_dimensions G (parts_sheaf G c) c.degree (top_vertex G) (omega (arith, field.two)) checkable.few_variables (passed_is_braden_macpherson G v c checkable passes)
+    let field : IsOverField G = over_field checkable.on in
+    counts_are_dimensions G (parts_sheaf G c) c.degree (top_vertex G) (omega (arith, field.two)) checkable.on.few_variables (passed_is_braden_macpherson G v c checkable passes)

@@ -68,5 +68,5 @@ pub record ShapesFit (G : Graph) (m : Method) (c : Written) : Type 0 where
   pub blocks : (x d : ℕ) → HasBlock G c x d → BlockFits G m c x d
 
 abbrev pub ShapeGivesFits : Type 0
-ShapeGivesFits = (G : Graph) (v : ℕ) (c : Written) → HavePartLines (G.prime - 1) c.degree c.parts → CountPasses G c →
+ShapeGivesFits = (G : Graph) (v : ℕ) (c : Written) → HavePartLines v (G.prime - 1) c.degree c.parts → CountPasses G c →
     ShapePasses G (method_of v) c → ShapesFit G (method_of v) c

@@ -2,7 +2,7 @@
 --   sum_above G x f           the sum of f y over the vertices y above x
 --   AreSizesOf G m c t        t has the numbers of stalk and of boundary coordinates of the sheaf that c writes down, and of the
 --                             sections that the blocks speak of
---   IsReady G m c t           c has lines and the vertices of G, its last alone the longest, and t is its table
+--   IsReady G v c t           c has lines of version v and the vertices of G, its last alone the longest, and t is its table
 use Rattle.std.specs.Prelude.{◌≡◌, ℕ, ◌-◌, ◌≤◌, if◌then◌else◌, length}
 use Rattle.bmp_math.specs.Sums.{sum_below}
 use Rattle.bmp_graph.specs.Graph.{Graph, vertex_count}
@@ -12,6 +12,7 @@ use Rattle.bmp_cover.specs.BradenMacPherson.{IsTopVertex}
 use Rattle.bmp_cert.specs.Counts.{Written}
 use Rattle.bmp_cert.specs.CertGrammar.{HavePartLines}
 use Rattle.bmp_check.specs.declared.method.Method.{Method}
+use Rattle.bmp_check.specs.Methods.{method_of}
 use Rattle.bmp_check.specs.BlockData.{top_vertex}
 use Rattle.bmp_check.specs.TupleCounts.{AreTupleCounts}
 use Rattle.bmp_check.specs.PartsSheaf.{parts_sheaf}
@@ -27,9 +28,9 @@ pub record AreSizesOf (G : Graph) (m : Method) (c : Written) (t : SizeTable) : T
   pub tuples : AreTupleCounts G m c t.tuples
 
 -- what the pass over all sizes goes by
-pub record IsReady (G : Graph) (m : Method) (c : Written) (t : SizeTable) : Type 0 where
-  pub formed : HavePartLines (G.prime - 1) c.degree c.parts
+pub record IsReady (G : Graph) (v : ℕ) (c : Written) (t : SizeTable) : Type 0 where
+  pub formed : HavePartLines v (G.prime - 1) c.degree c.parts
   pub vertices : length c.parts ≡ vertex_count G
   pub top : IsTopVertex G (top_vertex G)
   pub degree : c.degree ≤ 6
-  pub of : AreSizesOf G m c t
+  pub of : AreSizesOf G (method_of v) c t

@@ -1,7 +1,8 @@
 //! Room to work in for the check of blocks.
-ghost use Rattle.std.specs.Prelude.{◌≡◌, ℕ, ◌≤◌, ◌<◌, IfOk};
+ghost use Rattle.std.specs.Prelude.{◌≡◌, ℕ, ◌≤◌, ◌<◌, IfOk, length};
 ghost use Rattle.bmp_graph.specs.Graph.{vertex_count};
 ghost use Rattle.bmp_sheaf.specs.Coordinates.{stalk_count, boundary_count};
+ghost use Rattle.bmp_check.specs.declared.method.Method.TheVariants.{Spaces};
 ghost use Rattle.bmp_check.specs.Shaped.{IsRoomFor};
 ghost use Rattle.bmp_check.specs.ShapedViews.{graph_in, method_at, cert_in, IsWhole};
 ghost use Rattle.bmp_check.specs.PartsSheaf.{parts_sheaf};
@@ -64,6 +65,17 @@ fn coordinate_room(s: &Shaped) -> u64
     most
 }
 
+/// Room for the places of the positions and of so many equations, by whole spaces.
+fn index_for(alloc: Global, s: &Shaped, equations: u64) -> Result<SectionIndex, AllocError>
+    ensures vertices { IfOk result (λ index. method_at s.now ≡ Spaces → vertex_count (graph_in s.now) ≤ length index.starts.items) }
+    ensures equations { IfOk result (λ index. method_at s.now ≡ Spaces → equations ≤ length index.places.items) }
+{
+    match s.given().method() {
+        Method::Spaces => SectionIndex::new(alloc, s.graph().vertices(), equations),
+        Method::Levels => SectionIndex::new(alloc, 0, 0),
+    }
+}
+
 /// What any block needs: as many numbers as the largest of all sizes, and by whole spaces as many places as the most equations.
 pub fn scratch_for(alloc: Global, s: &Shaped) -> Result<BlockScratch, AllocError>
     requires { IsWhole s.now }
@@ -71,12 +83,8 @@ pub fn scratch_for(alloc: Global, s: &Shaped) -> Result<BlockScratch, AllocError
 {
     let (rows, largest) = block_room(s);
     let numbers = coordinate_room(s).max(largest);
-    let index = match s.given().method() {
-        Method::Spaces => SectionIndex::new(alloc, s.graph().vertices(), rows)?,
-        Method::Levels => SectionIndex::new(alloc, 0, 0)?,
-    };
     Ok(BlockScratch {
-        index,
+        index: index_for(alloc, s, rows)?,
         numbers: Scratch::new(alloc, numbers)?,
     })
 }

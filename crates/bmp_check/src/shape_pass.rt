@@ -49,7 +49,7 @@ fn check_shape_at(
     x: u32,
     d: u32,
 ) -> Result<(), Refusal>
-    requires ready { IsReady graph.now (method_in c.now) (written_in c.now) table.now }
+    requires ready { IsReady graph.now c.now.version (written_in c.now) table.now }
     requires vertex { x + 1 < vertex_count graph.now }
     requires degree { d ≤ c.now.degree }
     ensures { MatchResult result
@@ -70,7 +70,7 @@ fn check_shape_at(
 
 /// Compares the sizes of all blocks, and of their vertices, and gives the first comparison that fails. Takes no memory.
 pub fn check_shape(graph: &MomentGraph, c: &Given, table: &SizeTable) -> Result<(), Refusal>
-    requires formed { HavePartLines (graph.now.prime - 1) c.now.degree c.now.parts.now }
+    requires formed { HavePartLines c.now.version (graph.now.prime - 1) c.now.degree c.now.parts.now }
     requires vertices { length c.now.parts.now ≡ vertex_count graph.now }
     requires top { IsTopVertex graph.now (top_vertex graph.now) }
     requires degree { c.now.degree ≤ 6 }

@@ -44,7 +44,7 @@ pub(crate) fn check_vertex_sizes(
     x: u32,
     at: &mut SizeCheck,
 ) -> Result<(), Refusal>
-    requires ready { IsReady graph.now (method_in c.now) (written_in c.now) table.now }
+    requires ready { IsReady graph.now c.now.version (written_in c.now) table.now }
     requires vertex { x + 1 < vertex_count graph.now }
     requires room { at.old.index < 2 ^ 32 }
     ensures compares { Compares at.old at.new (vertex_sizes graph.now (written_in c.now) x) result }

@@ -52,7 +52,7 @@ impl BlockSizes {
 impl SizeTable {
     /// The sizes of the sheaf that a certificate writes down on a graph.
     pub fn new(alloc: Global, graph: &MomentGraph, c: &Given) -> Result<SizeTable, AllocError>
-        requires formed { HavePartLines (graph.now.prime - 1) c.now.degree c.now.parts.now }
+        requires formed { HavePartLines c.now.version (graph.now.prime - 1) c.now.degree c.now.parts.now }
         requires vertices { length c.now.parts.now ≡ vertex_count graph.now }
         requires top { IsTopVertex graph.now (top_vertex graph.now) }
         requires degree { c.now.degree ≤ 6 }

@@ -60,7 +60,7 @@ fn push_members(
     c: &Given,
     d: u32,
 ) -> Result<(), AllocError>
-    requires formed { HavePartLines (graph.now.prime - 1) c.now.degree c.now.parts.now }
+    requires formed { HavePartLines c.now.version (graph.now.prime - 1) c.now.degree c.now.parts.now }
     requires vertices { length c.now.parts.now ≡ vertex_count graph.now }
     requires top { IsTopVertex graph.now (top_vertex graph.now) }
     requires degree { d ≤ 6 }
@@ -91,7 +91,7 @@ fn push_counts(
     c: &Given,
     d: u32,
 ) -> Result<(), AllocError>
-    requires formed { HavePartLines (graph.now.prime - 1) c.now.degree c.now.parts.now }
+    requires formed { HavePartLines c.now.version (graph.now.prime - 1) c.now.degree c.now.parts.now }
     requires vertices { length c.now.parts.now ≡ vertex_count graph.now }
     requires top { IsTopVertex graph.now (top_vertex graph.now) }
     requires degree { d ≤ 6 }
@@ -108,7 +108,7 @@ fn push_counts(
 impl TupleCounts {
     /// The numbers of what is written of a graph.
     pub fn new(alloc: Global, graph: &MomentGraph, c: &Given) -> Result<TupleCounts, AllocError>
-        requires formed { HavePartLines (graph.now.prime - 1) c.now.degree c.now.parts.now }
+        requires formed { HavePartLines c.now.version (graph.now.prime - 1) c.now.degree c.now.parts.now }
         requires vertices { length c.now.parts.now ≡ vertex_count graph.now }
         requires top { IsTopVertex graph.now (top_vertex graph.now) }
         requires degree { c.now.degree ≤ 6 }
