@@ -1,9 +1,8 @@
 -- Families level by level: the top, the next one, how many members there are, and that the first members are those of
 -- the higher levels.
-use Rattle.std.proofs.Common.{◌≡◌, ◌≢◌, ℕ, zero, suc, ◌+◌, ◌-◌, ◌<◌, ◌≤◌, true, length, cond, leb, ltb, ◌&&◌}
+use Rattle.std.proofs.Common.{◌≡◌, ◌≢◌, ℕ, zero, suc, ◌+◌, ◌-◌, ◌<◌, ◌≤◌, length, cond, leb, ltb}
 use Rattle.std.proofs.Common.{refl, sym, ap, subst, ◌∙◌, inl, inr, arith}
 use Rattle.std.proofs.lemmas.Bool.{cases_eq, cases_lt, cond-true, cond-false, le-leb, lt-leb, lt-ltb, le-ltb}
-use Rattle.std.proofs.lemmas.Bool.{and_from, and_left, and_right}
 use Rattle.bmp_math.specs.Sums.{sum_below}
 use Rattle.bmp_math.proofs.SumLemmas.{sum_below_same, sum_below-zeros, sum_below-add, sum_below-zero, sum_below-suc}
 use Rattle.bmp_math.proofs.SumLemmas.{sum_below_joined}
@@ -15,12 +14,12 @@ use Rattle.bmp_sections.specs.TupleLists.{TupleList}
 use Rattle.bmp_levels.specs.Levels.{level_vertices}
 use Rattle.bmp_levels.specs.Lists.{first_members, SameList}
 use Rattle.bmp_levels.specs.Families.{new_at, new_count, extended, stalk_size}
-use Rattle.bmp_levels.specs.Families.{top_family, family_down, family, member_count}
+use Rattle.bmp_levels.specs.Families.{top_family, family_down, family, shorter_at, member_count}
 use Rattle.bmp_levels.specs.Statements.{FirstMembersAreFamily, FamiliesAreCounted}
 use Rattle.bmp_levels.proofs.Members.{old_away, new_at_is, new_at_none}
 
 -- a sum from the last term down
-sum_turned : (f : ℕ → ℕ) (n : ℕ) → sum_below (λ b. f (n - 1 - b)) n ≡ sum_below f n
+pub sum_turned : (f : ℕ → ℕ) (n : ℕ) → sum_below (λ b. f (n - 1 - b)) n ≡ sum_below f n
 sum_turned f zero = refl
 sum_turned f (suc n) =
     let first : sum_below (λ b. f (suc n - 1 - b)) (suc n) ≡ sum_below (λ b. f (suc n - 1 - b)) (1 + n) =
@@ -40,6 +39,80 @@ sum_turned f (suc n) =
       sum_below_joined (λ b. f (suc n - 1 - b)) 1 n,
       sum_below-suc f n,
     )
+
+-- ---- how many members there are
+
+module _ (G : Graph) (top : ℕ) (block : ℕ → DegreeBlock) where
+  -- the basis vectors at y, where it is of the level
+  abbrev pub held : ℕ → ℕ → ℕ
+  held k y = cond (leb k (length_at G y)) (shorter_at G top block y) 0
+
+  pub held_level : (k y : ℕ) → k ≤ length_at G y → held k y ≡ shorter_at G top block y
+  held_level k y long =
+      cond-true {A = ℕ} (leb k (length_at G y)) (shorter_at G top block y) 0 (le-leb k (length_at G y) long)
+
+  pub held_short : (k y : ℕ) → length_at G y < k → held k y ≡ 0
+  held_short k y short =
+      cond-false {A = ℕ} (leb k (length_at G y)) (shorter_at G top block y) 0 (lt-leb k (length_at G y) short)
+
+  shorter_is : (y : ℕ) → length_at G y < length_at G top → shorter_at G top block y ≡ length (block y).kernel.basis
+  shorter_is y short =
+      cond-true {A = ℕ} (ltb (length_at G y) (length_at G top)) (length (block y).kernel.basis) 0
+      (lt-ltb (length_at G y) (length_at G top) short)
+
+  shorter_none : (y : ℕ) → length_at G top ≤ length_at G y → shorter_at G top block y ≡ 0
+  shorter_none y long =
+      cond-false {A = ℕ} (ltb (length_at G y) (length_at G top)) (length (block y).kernel.basis) 0
+      (le-ltb (length_at G y) (length_at G top) long)
+
+  pub held_next : (k y : ℕ) → k < length_at G top → held k y ≡ held (suc k) y + new_at G k block y
+  held_next k y below = elim (cases_eq (length_at G y) k) [
+    | inl here ↦
+        omega (
+          arith,
+          held_level k y (omega arith),
+          shorter_is y (omega arith),
+          held_short (suc k) y (omega arith),
+          new_at_is G k block y here,
+        )
+    | inr other ↦ elim (cases_lt (length_at G y) k) [
+      | inl short ↦
+          omega (arith, held_short k y short, held_short (suc k) y (omega arith), new_at_none G k block y other)
+      | inr long ↦
+          omega (arith, held_level k y long, held_level (suc k) y (omega arith), new_at_none G k block y other)
+    ]
+  ]
+
+  abbrev pub held_sum : ℕ → ℕ
+  held_sum k = sum_below (held k) (vertex_count G)
+
+  pub sum_next : (k : ℕ) → k < length_at G top → held_sum k ≡ held_sum (suc k) + new_count G k block
+  sum_next k below =
+      sum_below_same (held k) (λ y. held (suc k) y + new_at G k block y) (vertex_count G) (λ y l. held_next k y below)
+      ∙ sum_below-add (held (suc k)) (new_at G k block) (vertex_count G)
+      ∙ ap (λ n. held_sum (suc k) + n) (sym (sum_turned (new_at G k block) (vertex_count G)))
+
+  pub sum_top : held_sum (length_at G top) ≡ 0
+  sum_top =
+      sum_below_same (held (length_at G top)) (λ y. 0) (vertex_count G)
+      (λ y l. elim (cases_lt (length_at G y) (length_at G top)) [
+        | inl short ↦ held_short (length_at G top) y short
+        | inr long ↦ held_level (length_at G top) y long ∙ shorter_none y long
+      ])
+      ∙ sum_below-zeros (vertex_count G)
+
+  -- as many where no vertex has a length in between
+  pub same_sums :
+      (k l : ℕ) → k ≤ l → ((y : ℕ) → y < vertex_count G → k ≤ length_at G y → l ≤ length_at G y) →
+      held_sum l ≡ held_sum k
+  same_sums k l order gap =
+      sum_below_same (held l) (held k) (vertex_count G)
+      (λ y below. elim (cases_lt (length_at G y) k) [
+        | inl short ↦ held_short l y (omega (arith, short, order)) ∙ sym (held_short k y short)
+        | inr long ↦ held_level l y (gap y below long) ∙ sym (held_level k y long)
+      ])
+
+-- ---- families
 
 module _ (G : Graph) (F : SheafData) (d top : ℕ) (block : ℕ → DegreeBlock) where
   pub family_top : family G F d top block (length_at G top) ≡ top_family G F d top
@@ -63,84 +136,17 @@ module _ (G : Graph) (F : SheafData) (d top : ℕ) (block : ℕ → DegreeBlock)
   pub family_size : (k y : ℕ) → (family G F d top block k).size y ≡ stalk_size G F d y
   family_size k y = size_down (length_at G top - k) y
 
-  -- ---- how many members there are
-
-  -- the basis vectors at y, where it is of the level
-  abbrev held : ℕ → ℕ → ℕ
-  held k y = cond (leb k (length_at G y) && ltb (length_at G y) (length_at G top)) (length (block y).kernel.basis) 0
-
-  held_all : (k y : ℕ) → k ≤ length_at G y → length_at G y < length_at G top → held k y ≡ length (block y).kernel.basis
-  held_all k y long short =
-      cond-true {A = ℕ} (leb k (length_at G y) && ltb (length_at G y) (length_at G top)) (length (block y).kernel.basis) 0
-      (and_from (leb k (length_at G y)) (ltb (length_at G y) (length_at G top)) (le-leb k (length_at G y) long)
-      (lt-ltb (length_at G y) (length_at G top) short))
-
-  held_short : (k y : ℕ) → length_at G y < k → held k y ≡ 0
-  held_short k y short =
-      cond-false {A = ℕ} (leb k (length_at G y) && ltb (length_at G y) (length_at G top)) (length (block y).kernel.basis) 0
-      (and_left (leb k (length_at G y)) (ltb (length_at G y) (length_at G top)) (lt-leb k (length_at G y) short))
-
-  held_long : (k y : ℕ) → length_at G top ≤ length_at G y → held k y ≡ 0
-  held_long k y long =
-      cond-false {A = ℕ} (leb k (length_at G y) && ltb (length_at G y) (length_at G top)) (length (block y).kernel.basis) 0
-      (and_right (leb k (length_at G y)) (ltb (length_at G y) (length_at G top))
-      (le-ltb (length_at G y) (length_at G top) long))
-
-  held_next : (k y : ℕ) → k < length_at G top → held k y ≡ held (suc k) y + new_at G k block y
-  held_next k y below = elim (cases_eq (length_at G y) k) [
-    | inl here ↦
-        omega (
-          arith,
-          held_all k y (omega arith) (omega arith),
-          held_short (suc k) y (omega arith),
-          new_at_is G k block y here,
-        )
-    | inr other ↦ elim (cases_lt (length_at G y) k) [
-      | inl short ↦
-          omega (arith, held_short k y short, held_short (suc k) y (omega arith), new_at_none G k block y other)
-      | inr long ↦ elim (cases_lt (length_at G y) (length_at G top)) [
-        | inl shorter ↦
-            omega (
-              arith,
-              held_all k y long shorter,
-              held_all (suc k) y (omega arith) shorter,
-              new_at_none G k block y other,
-            )
-        | inr top_long ↦
-            omega (arith, held_long k y top_long, held_long (suc k) y top_long, new_at_none G k block y other)
-      ]
-    ]
-  ]
-
-  held_sum : ℕ → ℕ
-  held_sum k = sum_below (held k) (vertex_count G)
-
-  sum_next : (k : ℕ) → k < length_at G top → held_sum k ≡ held_sum (suc k) + new_count G k block
-  sum_next k below =
-      sum_below_same (held k) (λ y. held (suc k) y + new_at G k block y) (vertex_count G) (λ y l. held_next k y below)
-      ∙ sum_below-add (held (suc k)) (new_at G k block) (vertex_count G)
-      ∙ ap (λ n. held_sum (suc k) + n) (sym (sum_turned (new_at G k block) (vertex_count G)))
-
-  sum_top : held_sum (length_at G top) ≡ 0
-  sum_top =
-      sum_below_same (held (length_at G top)) (λ y. 0) (vertex_count G)
-      (λ y l. elim (cases_lt (length_at G y) (length_at G top)) [
-        | inl short ↦ held_short (length_at G top) y short
-        | inr long ↦ held_long (length_at G top) y long
-      ])
-      ∙ sum_below-zeros (vertex_count G)
-
   counted_from :
-      (n k : ℕ) → k + n ≡ length_at G top → (family G F d top block k).count ≡ count G.rank d + held_sum k
+      (n k : ℕ) → k + n ≡ length_at G top → (family G F d top block k).count ≡ count G.rank d + held_sum G top block k
   counted_from zero k total =
       let same : k ≡ length_at G top = omega arith in
       let at_top : (family G F d top block k).count ≡ count G.rank d =
       ap (λ l. (family G F d top block l).count) same ∙ ap (λ (l : TupleList). l.count) family_top in
-      omega (arith, at_top, ap held_sum same, sum_top)
+      omega (arith, at_top, ap (held_sum G top block) same, sum_top G top block)
   counted_from (suc n) k total =
       let next : (family G F d top block k).count ≡ (family G F d top block (suc k)).count + new_count G k block =
       ap (λ (l : TupleList). l.count) (family_next k (omega arith)) in
-      omega (arith, next, counted_from n (suc k) (omega arith), sum_next k (omega arith))
+      omega (arith, next, counted_from n (suc k) (omega arith), sum_next G top block k (omega arith))
 
   pub family_counted :
       (k : ℕ) → k ≤ length_at G top → (family G F d top block k).count ≡ member_count G d top block k
@@ -154,7 +160,7 @@ module _ (G : Graph) (F : SheafData) (d top : ℕ) (block : ℕ → DegreeBlock)
     same :
         SameList (level_vertices G l) (first_members (family G F d top block l).count list) (family G F d top block l)
 
-  has_family : (k y : ℕ) → k ≤ length_at G top → k ≤ length_at G y → (family G F d top block k).has y ≡ true
+  pub has_family : (k y : ℕ) → k ≤ length_at G top → k ≤ length_at G y → (family G F d top block k).has y ≡ true
   has_family k y below long = elim (cases_lt k (length_at G top)) [
     | inl short ↦
         ap (λ (l : TupleList). l.has y) (family_next k short) ∙ le-leb k (length_at G y) long

@@ -71,7 +71,7 @@ module _ {A : Type 0} {s : SheafState A} {k d : ℕ} (block : ℕ → DegreeBloc
 
 module _ {A : Type 0} {s : SheafState A} {k d : ℕ} {block : ℕ → DegreeBlock} {f old new : FamilyTable} {b y : ℕ}
     (h : IsFilled s k d block f b old) (at : y + suc b ≡ vertex_count s.graph) (here : length_at s.graph y ≡ k)
-    (fits : BlockFits s k d f.count y (block y))
+    (fits : BlockFits s d f.count y (block y))
     (added :
     IsRunAdded (stalk_size s.graph (sheaf_of s) d y) (block y).cover.covers (block y).kernel.basis old new) where
   before_is : old.count ≡ f.count + new_start s.graph k block y

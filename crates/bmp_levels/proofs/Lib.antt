@@ -15,3 +15,7 @@ pub mod RunLemmas
 pub mod FamilyRuns
 pub mod Filling
 pub mod Keeping
+pub mod TopRuns
+pub mod WholeFamilies
+pub mod Below
+pub mod CountLemmas

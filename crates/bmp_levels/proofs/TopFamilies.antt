@@ -25,7 +25,7 @@ use Rattle.bmp_levels.specs.Bases.{IsBasis}
 use Rattle.bmp_levels.specs.Statements.{TopFamilyIsBasis}
 
 -- one generator of degree 0 has as many coordinates as there are monomials
-top_count : (r d : ℕ) (degrees : List ℕ) → degrees ≡ 0 ∷ [] → stalk_count r degrees d ≡ count r d
+pub top_count : (r d : ℕ) (degrees : List ℕ) → degrees ≡ 0 ∷ [] → stalk_count r degrees d ≡ count r d
 top_count r d degrees one =
     ap (λ es. stalk_count r es d) one
     ∙ sum_below-suc (λ g. component_count r d (slice_index (0 ∷ []) g)) 0

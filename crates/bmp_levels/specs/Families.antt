@@ -12,9 +12,10 @@
 --   top_family G F d top        one member for each monomial, over the vertices as long as the top
 --   family_down .. n            the family n levels below
 --   family G F d top block k    the family over level k, for k up to the length of the top
+--   shorter_at G top block y    how many basis vectors stand at y, where it is shorter than the top
 --   member_count G d top block k
---                               how many members it has: the monomials, and a basis vector each for the others
-use Rattle.std.specs.Prelude.{ℕ, zero, suc, ◌+◌, ◌-◌, ◌==◌, nat_le, nat_lt, ◌&&◌, if◌then◌else◌, length}
+--                               how many members it has: the monomials, and those for the basis vectors of level k
+use Rattle.std.specs.Prelude.{ℕ, zero, suc, ◌+◌, ◌-◌, ◌==◌, nat_le, nat_lt, if◌then◌else◌, length}
 use Rattle.bmp_math.specs.Sums.{sum_below}
 use Rattle.bmp_math.specs.Vectors.{unit}
 use Rattle.bmp_poly.specs.Exponents.{count}
@@ -77,11 +78,9 @@ module _ (G : Graph) (F : SheafData) (d top : ℕ) where
     abbrev pub family : ℕ → TupleList
     family k = family_down (length_at G top - k)
 
--- the vertices of length at least k, the top apart
+abbrev pub shorter_at : Graph → ℕ → (ℕ → DegreeBlock) → ℕ → ℕ
+shorter_at G top block y = if nat_lt (length_at G y) (length_at G top) then length (block y).kernel.basis else 0
+
 abbrev pub member_count : Graph → ℕ → ℕ → (ℕ → DegreeBlock) → ℕ → ℕ
 member_count G d top block k =
-    count G.rank d
-    + sum_below
-    (λ y. if nat_le k (length_at G y) && nat_lt (length_at G y) (length_at G top)
-    then length (block y).kernel.basis else 0)
-    (vertex_count G)
+    count G.rank d + sum_below (λ y. if nat_le k (length_at G y) then shorter_at G top block y else 0) (vertex_count G)

@@ -15,6 +15,7 @@
 --   IsRunAdded size covers basis old new
 --                                new has one vertex more than old, with such a run and a new member for each vector of
 --                                the basis
+--   AreUnits n vs                the vectors that are 1 at one of n places, in the order of the places
 --   IsColumnWritten, AreColumnsWritten
 --                                in rows of `width` bytes, one column, or n columns from `start` on, have the numbers,
 --                                and the others are as they were
@@ -69,6 +70,10 @@ pub record IsRunAdded (size : ℕ) (covers basis : List (List Entry)) (old new :
   pub runs : new.runs ≡ old.runs ++ run ∷ []
   pub count : new.count ≡ old.count + length basis
   pub vertices : new.vertices ≡ old.vertices
+
+pub record AreUnits (n : ℕ) (vs : List (List Entry)) : Type 0 where
+  pub count : length vs ≡ n
+  pub each : (i : ℕ) → i < n → slice_index_or vs i [] ≡ record { place = i; value = 1 } ∷ []
 
 pub record IsColumnWritten (width column : ℕ) (number : ℕ → ℕ) (old new : List ℕ) : Type 0 where
   pub sized : length new ≡ length old

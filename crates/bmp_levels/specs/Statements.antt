@@ -11,13 +11,16 @@
 --                                  what passed evidence by levels says
 --   FamiliesAreCounted             the number of members of each family
 --   FirstMembersAreFamily          over a higher level the first members are the family of that level
+--   BlocksAreBelow G top block     the numbers of the blocks of all vertices shorter than the top are below the prime
+--   FamiliesAreBelow               so are the values of the families then
 --   FamiliesGoOn                   what extends a family is the family of the next level
 --   BasesCarry                     lists with the same values over a level are bases there together
 --   ComparisonsAgree               lists with the same values above a vertex make the same comparisons there
-use Rattle.std.specs.Prelude.{◌≡◌, ◌↔◌, ℕ, suc, ◌<◌, ◌≤◌, [], ◌∷◌}
+use Rattle.std.specs.Prelude.{◌≡◌, ◌↔◌, ℕ, suc, ◌<◌, ◌≤◌, [], ◌∷◌, All}
 use Rattle.bmp_graph.specs.Graph.{Graph, IsGraph, IsAbove, vertex_count, length_at}
 use Rattle.bmp_linear.specs.declared.blocks.DegreeBlock.{DegreeBlock}
 use Rattle.bmp_linear.specs.declared.evidence.CoverEvidence.{CoverEvidence}
+use Rattle.bmp_linear.specs.SparseVectors.{ValuesBelow}
 use Rattle.bmp_sheaf.specs.Fields.{IsOverField}
 use Rattle.bmp_sheaf.specs.Sheaves.{SheafData, Tuple}
 use Rattle.bmp_sections.specs.Sections.{IsSection, IsLifted, above}
@@ -111,6 +114,16 @@ FamiliesAreCounted = (G : Graph) (F : SheafData) (d top : ℕ) (block : ℕ → 
 
 abbrev pub FirstMembersAreFamily : Type 0
 FirstMembersAreFamily = (G : Graph) (F : SheafData) (d top : ℕ) (block : ℕ → DegreeBlock) → HasPrefixes G F d top block
+
+abbrev pub BlocksAreBelow : Graph → ℕ → (ℕ → DegreeBlock) → Type 0
+BlocksAreBelow G top block =
+    (x : ℕ) → x < vertex_count G → length_at G x < length_at G top →
+    All (λ v. ValuesBelow v G.prime) (block x).kernel.basis × All (λ v. ValuesBelow v G.prime) (block x).cover.covers
+
+abbrev pub FamiliesAreBelow : Type 0
+FamiliesAreBelow =
+    (G : Graph) (F : SheafData) (d top : ℕ) (block : ℕ → DegreeBlock) → 2 ≤ G.prime → BlocksAreBelow G top block →
+    (k j y c : ℕ) → y < vertex_count G → (family G F d top block k).value j y c < G.prime
 
 abbrev pub FamiliesGoOn : Type 0
 FamiliesGoOn = (G : Graph) (F : SheafData) (d top : ℕ) (block : ℕ → DegreeBlock) → GoesOn G F d top block

@@ -3,7 +3,8 @@ ghost use Rattle.bmp_levels.specs.Statements.{SectionsExtend, ExtensionKeepsSect
 ghost use Rattle.bmp_levels.specs.Statements.{ExtensionKeepsIndependence, TopFamilyIsBasis};
 ghost use Rattle.bmp_levels.specs.Statements.{PassedByLevelsIsBradenMacPherson, PassedByLevelsCountsAreDimensions};
 ghost use Rattle.bmp_levels.specs.Statements.{PassedByLevelsFamiliesAreBases, FamiliesAreCounted};
-ghost use Rattle.bmp_levels.specs.Statements.{FirstMembersAreFamily, FamiliesGoOn, BasesCarry, ComparisonsAgree};
+ghost use Rattle.bmp_levels.specs.Statements.{FirstMembersAreFamily, FamiliesAreBelow, FamiliesGoOn, BasesCarry};
+ghost use Rattle.bmp_levels.specs.Statements.{ComparisonsAgree};
 
 /// Where each section is lifted at all longer vertices, a section over the vertices above x goes on to all vertices
 /// longer than x.
@@ -54,6 +55,11 @@ pub fn families_are_counted()
 /// The first members of a family are, over a higher level, the family of that level.
 pub fn first_members_are_family()
     ensures { FirstMembersAreFamily }
+{}
+
+/// The values of families are below the prime where the numbers of the blocks are.
+pub fn families_are_below()
+    ensures { FamiliesAreBelow }
 {}
 
 /// What extends a list with the values of a family has the values of the next family.

@@ -3,13 +3,17 @@
 #![tactic(auto)]
 
 mod columns;
+mod counts;
 mod extend;
 mod family;
 pub mod laws;
 mod level_blocks;
 mod members;
 mod run;
+mod top;
+mod whole;
 
+pub use counts::longer_counts;
 pub use family::Family;
 pub use level_blocks::LevelBlocks;
 pub use members::Members;
