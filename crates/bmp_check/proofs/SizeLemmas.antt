@@ -1,14 +1,13 @@
 -- Tables of sizes, and the sizes of a block.
-use Rattle.std.proofs.Common.{◌≡◌, ◌↔◌, ℕ, suc, ◌+◌, ◌-◌, ◌*◌, ◌/◌, ◌%◌, ◌<◌, ◌≤◌, Bool, cond, IsTrue, List, [], ◌∷◌, ◌++◌, length, get_or, refl, sym, subst, ap, ap₂, ◌∙◌, inl, inr, arith, true≢false}
+use Rattle.std.proofs.Common.{◌≡◌, ◌↔◌, ℕ, ◌+◌, ◌-◌, ◌*◌, ◌/◌, ◌%◌, ◌<◌, ◌≤◌, Bool, cond, IsTrue, List, [], ◌∷◌, ◌++◌, length, get_or, sym, subst, ap, ap₂, ◌∙◌, inl, inr, arith, true≢false}
 use Rattle.std.specs.List.{All}
 use Rattle.std.proofs.lemmas.Bool.{cases_Bool}
 use Rattle.std.proofs.lemmas.List.FromFn.{get_or-map-range_with_len, length-map-range_with_len, map-range_with_len_more}
 use Rattle.std.proofs.lemmas.Nat.{div-mul-add, mod-mul-add}
 use Rattle.bmp_math.specs.Sums.{sum_below}
 use Rattle.bmp_math.proofs.SumLemmas.{sum_below_same, sum_below_more}
-use Rattle.bmp_graph.specs.Graph.{Graph, IsGraph, IsAbove, vertex_count, length_at}
+use Rattle.bmp_graph.specs.Graph.{Graph, IsGraph, IsAbove, vertex_count}
 use Rattle.bmp_cover.specs.BradenMacPherson.{IsTopVertex}
-use Rattle.bmp_levels.proofs.Families.{families_are_counted}
 use Rattle.bmp_cert.proofs.CountLemmas.{place_below}
 use Rattle.bmp_cert.specs.Counts.{Written, part_of}
 use Rattle.bmp_cert.specs.declared.cert.VertexPart.{VertexPart}
@@ -20,8 +19,8 @@ use Rattle.bmp_sections.proofs.AboveLemmas.{above_from_test, test_from_above, ab
 use Rattle.bmp_check.specs.PartsSheaf.{parts_sheaf}
 use Rattle.bmp_check.specs.declared.method.Method.{Method}
 use Rattle.bmp_check.specs.declared.method.Method.TheVariants.{Spaces, Levels}
-use Rattle.bmp_check.specs.BlockData.{block_of, top_vertex, matrix_at, tuples_at}
-use Rattle.bmp_check.specs.TupleCounts.{tuple_count}
+use Rattle.bmp_check.specs.BlockData.{top_vertex, matrix_at, tuples_at}
+use Rattle.bmp_check.proofs.TupleCountLemmas.{tuples_counted}
 use Rattle.bmp_check.specs.Sizes.{counts_at}
 use Rattle.bmp_check.specs.SizeLists.{MOST_SIZE, IsSizeList, AreSizes, size_in, size_numbers}
 use Rattle.bmp_check.specs.SizeTables.{sum_above, AreSizesOf}
@@ -89,12 +88,6 @@ same_sizes k n p q r s t =
     ∙ ap₂ (λ (a b : ℕ). let made : BlockSizes = record { columns = n.columns; rows = n.rows; stalk = a; boundary = b; tuples = k.tuples } in made) r s
     ∙ ap (λ (a : ℕ). let made : BlockSizes = record { columns = n.columns; rows = n.rows; stalk = n.stalk; boundary = n.boundary; tuples = a } in made) t
 
--- the number of sections from the text
-tuples_counted : (G : Graph) (m : Method) (c : Written) → IsTopVertex G (top_vertex G) → (x d : ℕ) → x + 1 < vertex_count G → tuple_count G m c x d ≡ (tuples_at G m c x d).count
-tuples_counted G Spaces c top x d vertex = refl
-tuples_counted G Levels c top x d vertex =
-    sym (families_are_counted G (parts_sheaf G c) d (top_vertex G) (λ y. block_of c y d) (suc (length_at G x)) (top.longest x (omega (arith, vertex)) (λ same. omega (arith, same, vertex))))
-
 -- the sizes of a block from the table
 module _ {G : Graph} {m : Method} {c : Written} {t : SizeTable} (of : AreSizesOf G m c t) (top : IsTopVertex G (top_vertex G)) (x d : ℕ) (vertex : x + 1 < vertex_count G) (degree : d ≤ c.degree) where
   abbrev F : SheafData
@@ -114,19 +107,18 @@ module _ {G : Graph} {m : Method} {c : Written} {t : SizeTable} (of : AreSizesOf
   own_boundary : size_in t.boundaries x d ≡ boundary_count G F x d
   own_boundary = of.boundaries.numbers x d (omega (arith, vertex)) degree
 
-  own_tuples : get_or t.tuples.numbers.items (d * t.tuples.vertices + (t.tuples.vertices - 1 - x)) 0 ≡ (tuples_at G m c x d).count
+  own_tuples : get_or t.tuples.numbers.items (d * t.tuples.vertices + x) 0 ≡ (tuples_at G m c x d).count
   own_tuples =
-      ap (λ n. get_or t.tuples.numbers.items (d * n + (n - 1 - x)) 0) of.tuples.vertices
+      ap (λ n. get_or t.tuples.numbers.items (d * n + x) 0) of.tuples.vertices
       ∙ of.tuples.numbers.each x d (omega (arith, vertex)) (omega (arith, degree))
       ∙ tuples_counted G m c top x d vertex
 
   -- the place of the sections' number is in the list
-  pub tuples_there : d * t.tuples.vertices + (t.tuples.vertices - 1 - x) < length t.tuples.numbers.items
+  pub tuples_there : d * t.tuples.vertices + x < length t.tuples.numbers.items
   tuples_there =
       let n = vertex_count G in
-      let row : d * n + (n - 1 - x) < (c.degree + 1) * n = place_below d (c.degree + 1) (n - 1 - x) n (omega (arith, degree)) (omega (arith, vertex)) in
-      subst (λ k. d * k + (k - 1 - x) < length t.tuples.numbers.items) (sym of.tuples.vertices)
-      (omega (arith, row, of.tuples.numbers.sized))
+      let row : d * n + x < (c.degree + 1) * n = place_below d (c.degree + 1) x n (omega (arith, degree)) (omega (arith, vertex)) in
+      subst (λ k. d * k + x < length t.tuples.numbers.items) (sym of.tuples.vertices) (omega (arith, row, of.tuples.numbers.sized))
 
   -- what the kernel evidence is about, by the method
   pub spaces_columns : (n : ℕ) → m ≡ Spaces → n ≡ sum_above G x (λ y. size_in t.stalks y d) → n ≡ (matrix_at G m c x d).cols
@@ -144,6 +136,6 @@ module _ {G : Graph} {m : Method} {c : Written} {t : SizeTable} (of : AreSizesOf
   pub block_counts :
       (n : BlockSizes) → n.columns ≡ (matrix_at G m c x d).cols → n.rows ≡ (matrix_at G m c x d).rows →
       n.stalk ≡ size_in t.stalks x d → n.boundary ≡ size_in t.boundaries x d →
-      n.tuples ≡ get_or t.tuples.numbers.items (d * t.tuples.vertices + (t.tuples.vertices - 1 - x)) 0 → n ≡ counts_at G m c x d
+      n.tuples ≡ get_or t.tuples.numbers.items (d * t.tuples.vertices + x) 0 → n ≡ counts_at G m c x d
   block_counts n columns rows stalk boundary tuples =
       same_sizes n (counts_at G m c x d) columns rows (stalk ∙ own_stalk) (boundary ∙ own_boundary) (tuples ∙ own_tuples)

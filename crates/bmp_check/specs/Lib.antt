@@ -15,4 +15,5 @@ pub mod Accepted
 pub mod Shaped
 pub mod ShapedViews
 pub mod NumberedBlocks
+pub mod DegreeBlocks
 pub mod CheckErrors

@@ -12,6 +12,7 @@
 mod block;
 mod blocks;
 mod counts;
+mod degree_blocks;
 mod evidence;
 mod given;
 pub mod laws;

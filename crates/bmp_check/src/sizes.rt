@@ -54,7 +54,6 @@ impl SizeTable {
     pub fn new(alloc: Global, graph: &MomentGraph, c: &Given) -> Result<SizeTable, AllocError>
         requires formed { HavePartLines c.now.version (graph.now.prime - 1) c.now.degree c.now.parts.now }
         requires vertices { length c.now.parts.now ≡ vertex_count graph.now }
-        requires top { IsTopVertex graph.now (top_vertex graph.now) }
         requires degree { c.now.degree ≤ 6 }
         ensures { IfOk result (AreSizesOf graph.now (method_in c.now) (written_in c.now)) }
     {
