@@ -10,7 +10,7 @@ use crate::level_blocks::LevelBlocks;
 use bmp_field::Field;
 use bmp_graph::MomentGraph;
 use bmp_sheaf::Sheaf;
-use std::alloc::{AllocError, Global};
+use std::alloc::AllocError;
 
 /// The first vertex of length `k` or more, or the number of vertices.
 fn first_of_level(graph: &MomentGraph, k: u32) -> u32
@@ -34,7 +34,6 @@ impl Family {
     /// Wants memory also where there would be 2^32 members or more.
     pub fn extend_level<F: Field, B: LevelBlocks>(
         self,
-        alloc: Global,
         sheaf: &Sheaf<F>,
         k: u32,
         d: u32,
@@ -51,11 +50,13 @@ impl Family {
         let graph = sheaf.graph();
         let vertices = graph.vertices();
         let mut family = self;
-        for b in family.vertices()..vertices - first_of_level(graph, k) {
+        let start = family.vertices();
+        let first = first_of_level(graph, k);
+        for b in start..vertices - first {
             let y = vertices - 1 - b;
             let block = blocks.block(y);
             let size = sheaf.stalk_len(y, d) as u32;
-            family.add_vertex(alloc, size, &block.cover.covers, &block.kernel.basis)?;
+            family.add_vertex(size, &block.cover.covers, &block.kernel.basis)?;
         }
         Ok(family)
     }

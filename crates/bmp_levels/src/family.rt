@@ -81,7 +81,6 @@ impl Family {
     /// Wants memory also where there would be 2^32 members. Then the family is as it was.
     pub(crate) fn add_vertex(
         &mut self,
-        alloc: Global,
         size: u32,
         covers: &Vectors,
         basis: &Vectors,
@@ -96,7 +95,7 @@ impl Family {
         if basis.len() > u32::MAX - self.count {
             return Err(AllocError);
         }
-        let run = Run::of(alloc, size, self.count, covers, basis)?;
+        let run = Run::of(*self.runs.allocator(), size, self.count, covers, basis)?;
         self.runs.push(run)?;
         self.count += basis.len();
         Ok(())

@@ -42,7 +42,7 @@ impl Family {
         let mut family = Family::new(alloc, graph.vertices())?;
         let size = monomials::count(graph.rank(), d);
         let none = Vectors::new(alloc);
-        family.add_vertex(alloc, size, &none, &units(alloc, size)?)?;
+        family.add_vertex(size, &none, &units(alloc, size)?)?;
         Ok(family)
     }
 }

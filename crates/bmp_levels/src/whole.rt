@@ -39,7 +39,7 @@ impl Family {
         let mut family = Family::top(alloc, sheaf, d)?;
         while family.vertices() < graph.vertices() {
             let k = graph.length(graph.vertices() - 1 - family.vertices());
-            family = family.extend_level(alloc, sheaf, k, d, blocks)?;
+            family = family.extend_level(sheaf, k, d, blocks)?;
         }
         Ok(family)
     }
