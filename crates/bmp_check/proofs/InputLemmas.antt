@@ -2,6 +2,7 @@
 use Rattle.std.proofs.Common.{◌≡◌, ℕ, ◌+◌, ◌<◌, ◌≤◌, ◌^◌, max, List, [], length, get_or, refl, sym, ap, subst, ◌∙◌, arith}
 use Rattle.std.specs.List.{All}
 use Rattle.std.proofs.lemmas.List.Elements.{All-weaker, All-get_or}
+use Rattle.bmp_field.specs.declared.prime.PrimeField.{PrimeField}
 use Rattle.bmp_math.specs.Matrices.{Matrix, NumbersBelow}
 use Rattle.bmp_linear.specs.declared.vector.Entry.{Entry}
 use Rattle.bmp_linear.specs.declared.evidence.KernelEvidence.{KernelEvidence}
@@ -25,6 +26,7 @@ use Rattle.bmp_cover.specs.CoverInputs.{HasStalks, HasTuples, CoverFits}
 use Rattle.bmp_cover.specs.Counts.{generators_in}
 use Rattle.bmp_cert.specs.Counts.{Written, part_of}
 use Rattle.bmp_cert.specs.declared.cert.VertexPart.{VertexPart}
+use Rattle.bmp_check.specs.declared.given.Given.{Given}
 use Rattle.bmp_check.specs.declared.method.Method.{Method}
 use Rattle.bmp_check.specs.declared.method.Method.TheVariants.{Spaces, Levels}
 use Rattle.bmp_check.specs.declared.scratch.BlockScratch.{BlockScratch}
@@ -33,6 +35,7 @@ use Rattle.bmp_check.specs.Methods.{method_of}
 use Rattle.bmp_check.specs.BlockData.{no_block, block_of, matrix_at, tuples_at}
 use Rattle.bmp_check.specs.Fits.{IsVectorIn, ShapesFit, BlockFits}
 use Rattle.bmp_check.specs.Shaped.{IsSheafOf, IsShaped, HasWidth, IsRoomFor}
+use Rattle.bmp_check.specs.ShapedViews.{written_in}
 use Rattle.bmp_check.specs.PartsSheaf.{parts_sheaf}
 use Rattle.bmp_check.specs.Sizes.{counts_at, largest}
 use Rattle.bmp_check.specs.Verdicts.{HasBlock, CountPasses}
@@ -63,6 +66,21 @@ at_block {G} {v} {c} whole x d block =
       fits = fits.blocks x d block;
     }
 
+-- the block as it is read
+module _ {g given : Given} {part : VertexPart} {x d : ℕ} (given_is : g ≡ given) (part_is : part ≡ part_of (written_in g) x) where
+  part_same : part ≡ part_of (written_in given) x
+  part_same = part_is ∙ ap (λ (e : Given). part_of (written_in e) x) given_is
+
+  pub read_there : d < length (part_of (written_in given) x).blocks → d < length part.blocks
+  read_there there = subst (λ (v : VertexPart). d < length v.blocks) (sym part_same) there
+
+  pub read_block : {own : DegreeBlock} → own ≡ get_or part.blocks d no_block → own ≡ block_of (written_in given) x d
+  read_block own_is = own_is ∙ ap (λ (v : VertexPart). get_or v.blocks d no_block) part_same
+
+-- the prime of the field as it is read
+pub field_prime : {f own : PrimeField} {s t : SheafState PrimeField} {p : ℕ} → f ≡ own → own.prime ≡ s.graph.prime → s ≡ t → t.graph.prime ≡ p → f.prime ≡ p
+field_prime field size same is = ap (λ (e : PrimeField). e.prime) field ∙ size ∙ ap (λ (u : SheafState PrimeField). u.graph.prime) same ∙ is
+
 -- the numbers of what the kernel evidence is about are below the prime
 numbers_below : (G : Graph) (m : Method) (c : Written) (x d : ℕ) → IsOverField G → NumbersBelow G.prime (matrix_at G m c x d)
 numbers_below G Spaces c x d over = equation_matrix_below G (parts_sheaf G c) x d over
@@ -91,16 +109,8 @@ module _ {G : Graph} {m : Method} {c : Written} {F : Type 0} {s : SheafState F} 
         few_on_boundary = to_memory (λ (H : Graph) (S : SheafData). boundary_count H S x d < 2 ^ 32) (omega (arith, few));
       }
 
-  -- the block as it is read
-  module _ (part : VertexPart) (own : DegreeBlock) (part_is : part ≡ part_of c x) (own_is : own ≡ get_or part.blocks d no_block) where
-    pub own_there : d < length part.blocks
-    own_there = subst (λ (v : VertexPart). d < length v.blocks) (sym part_is) at.there
-
-    pub own_block : own ≡ block_of c x d
-    own_block = own_is ∙ ap (λ (v : VertexPart). get_or v.blocks d no_block) part_is
-
   -- the kernel evidence: M and own are those of the check
-  module _ (M : Matrix) (own : DegreeBlock) (matrix : M ≡ matrix_at G m c x d) (is : own ≡ block_of c x d) where
+  module _ {M : Matrix} {own : DegreeBlock} (matrix : M ≡ matrix_at G m c x d) (is : own ≡ block_of c x d) where
     pub kernel_numbers : NumbersBelow G.prime M
     kernel_numbers = subst (λ (n : Matrix). NumbersBelow G.prime n) (sym matrix) (numbers_below G m c x d at.over)
 
@@ -121,7 +131,7 @@ module _ {G : Graph} {m : Method} {c : Written} {F : Type 0} {s : SheafState F} 
     kernel_as P h = subst (λ (n : Matrix). P n (block_of c x d).kernel) matrix (subst (λ (b : DegreeBlock). P M b.kernel) is h)
 
   -- the cover evidence, for so many tuples
-  module _ (count : ℕ) (own : DegreeBlock) (is : own ≡ block_of c x d) (as_many : count ≡ (tuples_at G m c x d).count) where
+  module _ {count : ℕ} {own : DegreeBlock} (is : own ≡ block_of c x d) (as_many : count ≡ (tuples_at G m c x d).count) where
     all_fit : (n : ℕ) (vs : List (List Entry)) → All (IsVectorIn G.prime n) vs → All (λ v. FitsBelow v n) vs
     all_fit n vs h = All-weaker (IsVectorIn G.prime n) (λ (v : List Entry). FitsBelow v n) (λ v in_it. in_it.fits) vs h
 
@@ -169,7 +179,7 @@ module _ {G : Graph} {c : Written} {F : Type 0} {s : SheafState F} {x d : ℕ} (
       (record { vertices = room.vertices refl; equations = room.equations refl x d at.block; few_positions = omega (arith, few); few_equations = omega (arith, few) })
 
   -- the sections of the kernel evidence as tuples of the sheaf in memory
-  module _ (own : DegreeBlock) (is : own ≡ block_of c x d) (L : TupleList) (list : L ≡ tuples_over s.graph (sheaf_of s) x d own.kernel.basis) where
+  module _ {own : DegreeBlock} (is : own ≡ block_of c x d) {L : TupleList} (list : L ≡ tuples_over s.graph (sheaf_of s) x d own.kernel.basis) where
     basis_below : All (λ v. ValuesBelow v s.graph.prime) own.kernel.basis
     basis_below =
         subst (λ q. All (λ (v : List Entry). ValuesBelow v q) own.kernel.basis) (sym (prime_is at))
@@ -193,11 +203,11 @@ module _ {G : Graph} {c : Written} {F : Type 0} {s : SheafState F} {x d : ℕ} (
         ∙ to_written at (λ (H : Graph) (S : SheafData). tuples_over s.graph (sheaf_of s) x d own.kernel.basis ≡ tuples_over H S x d own.kernel.basis) refl
         ∙ ap (λ (b : DegreeBlock). tuples_over G (parts_sheaf G c) x d b.kernel.basis) is
 
-  pub equations_are : (M : Matrix) → M ≡ equation_matrix s.graph (sheaf_of s) x d → M ≡ matrix_at G Spaces c x d
-  equations_are M is = is ∙ to_written at (λ (H : Graph) (S : SheafData). equation_matrix s.graph (sheaf_of s) x d ≡ equation_matrix H S x d) refl
+  pub equations_are : {M : Matrix} → M ≡ equation_matrix s.graph (sheaf_of s) x d → M ≡ matrix_at G Spaces c x d
+  equations_are is = is ∙ to_written at (λ (H : Graph) (S : SheafData). equation_matrix s.graph (sheaf_of s) x d ≡ equation_matrix H S x d) refl
 
 -- ---- by levels
 
 module _ {G : Graph} {c : Written} {F : Type 0} {s : SheafState F} {x d : ℕ} (at : IsAtBlock G Levels c s x d) where
-  pub boundaries_are : (M : Matrix) → M ≡ boundary_matrix s.graph (sheaf_of s) x d → M ≡ matrix_at G Levels c x d
-  boundaries_are M is = is ∙ to_written at (λ (H : Graph) (S : SheafData). boundary_matrix s.graph (sheaf_of s) x d ≡ boundary_matrix H S x d) refl
+  pub boundaries_are : {M : Matrix} → M ≡ boundary_matrix s.graph (sheaf_of s) x d → M ≡ matrix_at G Levels c x d
+  boundaries_are is = is ∙ to_written at (λ (H : Graph) (S : SheafData). boundary_matrix s.graph (sheaf_of s) x d ≡ boundary_matrix H S x d) refl

@@ -18,4 +18,5 @@ pub mod WholeLemmas
 pub mod CheckableLemmas
 pub mod AcceptedLemmas
 pub mod Soundness
+pub mod FamilyLemmas
 pub mod PassLemmas

@@ -1,6 +1,7 @@
 -- Blocks of shaped parts by number: that all pass, and that one is the first that doesn't.
-use Rattle.std.proofs.Common.{◌≡◌, ℕ, ◌+◌, ◌<◌, ◌≤◌, refl, arith}
-use Rattle.bmp_graph.specs.Graph.{vertex_count}
+use Rattle.std.proofs.Common.{◌≡◌, ℕ, ◌<◌, ◌≤◌, refl, ap, ap₂, ◌∙◌}
+use Rattle.bmp_graph.specs.Graph.{Graph, vertex_count}
+use Rattle.bmp_check.specs.declared.given.Given.{Given}
 use Rattle.bmp_check.specs.declared.refusal.Refusal.{Refusal}
 use Rattle.bmp_check.specs.declared.shaped.Shaped.{Shaped}
 use Rattle.bmp_check.specs.BlockOrder.{block_count, block_vertex, block_degree}
@@ -8,6 +9,15 @@ use Rattle.bmp_check.specs.NumberedBlocks.{HasNumbered, PassesAt, IsRefusalAt}
 use Rattle.bmp_check.specs.ShapedViews.{graph_in, method_at, cert_in}
 use Rattle.bmp_check.specs.Verdicts.{BlockPasses, BlocksPass, IsFirstBlockRefusal}
 use Rattle.bmp_check.proofs.BlockLemmas.{blocks_all, blocks_here, blocks_earlier}
+
+-- the number of blocks as it is computed
+pub counted_blocks :
+    {s t : Shaped} {G : Graph} {g : Given} {n i : ℕ} → s ≡ t → G ≡ graph_in s → g ≡ s.given → n ≡ vertex_count G → i ≡ block_count n g.degree →
+    i ≡ block_count (vertex_count (graph_in t)) (cert_in t).degree
+counted_blocks same graph given vertices counted =
+    counted
+    ∙ ap₂ (λ (a b : ℕ). block_count a b) (vertices ∙ ap (λ (H : Graph). vertex_count H) graph) (ap (λ (e : Given). e.degree) given)
+    ∙ ap (λ (u : Shaped). block_count (vertex_count (graph_in u)) (cert_in u).degree) same
 
 module _ (s : Shaped) where
   abbrev n : ℕ

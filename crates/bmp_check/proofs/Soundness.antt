@@ -45,7 +45,7 @@ one_of_degree_zero [] long first = absurd (omega (arith, long))
 one_of_degree_zero (e ∷ []) long first = ap (λ (k : ℕ). k ∷ []) first
 one_of_degree_zero (e ∷ f ∷ es) long first = absurd (omega (arith, long))
 
-top_degrees : (c : Written) → first_failure (top_comparisons c) ≡ None → (part_of c (length c.parts - 1)).degrees ≡ 0 ∷ []
+pub top_degrees : (c : Written) → first_failure (top_comparisons c) ≡ None → (part_of c (length c.parts - 1)).degrees ≡ 0 ∷ []
 top_degrees c none =
     let degrees : List ℕ = (part_of c (length c.parts - 1)).degrees in
     let first = head_passes (top_comparison c 0 (length degrees) 1) (top_comparison c 1 (get_or degrees 0 0) 0 ∷ []) none in

@@ -1,5 +1,5 @@
 -- Numbers of sections, degree after degree.
-use Rattle.std.proofs.Common.{◌≡◌, ℕ, suc, ◌+◌, ◌-◌, ◌*◌, ◌<◌, ◌≤◌, true, List, [], ◌++◌, length, get_or, refl, sym, ap, subst, ◌∙◌, inl, inr, arith, length-append}
+use Rattle.std.proofs.Common.{◌≡◌, ℕ, suc, ◌+◌, ◌-◌, ◌*◌, ◌<◌, ◌≤◌, Bool, true, ltb, ◌&&◌, List, ◌++◌, length, get_or, refl, sym, ap, subst, ◌∙◌, inl, inr, arith, length-append}
 use Rattle.std.proofs.lemmas.Bool.{cases_eq, and_from, lt-ltb}
 use Rattle.std.proofs.lemmas.List.{get_or_append_left, get_or-append_right}
 use Rattle.bmp_graph.specs.Graph.{Graph, vertex_count, length_at}
@@ -8,14 +8,11 @@ use Rattle.bmp_levels.proofs.Families.{families_are_counted}
 use Rattle.bmp_cert.specs.Counts.{Written, part_of}
 use Rattle.bmp_cert.specs.CertGrammar.{HavePartLines}
 use Rattle.bmp_cert.proofs.CountLemmas.{place_below}
-use Rattle.bmp_check.specs.declared.degree_blocks.DegreeBlocks.{DegreeBlocks}
 use Rattle.bmp_check.specs.declared.method.Method.{Method}
 use Rattle.bmp_check.specs.declared.method.Method.TheVariants.{Spaces, Levels}
-use Rattle.bmp_check.specs.declared.tuple_counts.TupleCounts.{TupleCounts}
 use Rattle.bmp_check.specs.BlockData.{block_of, top_vertex, tuples_at}
-use Rattle.bmp_check.specs.DegreeBlocks.{has_block}
 use Rattle.bmp_check.specs.PartsSheaf.{parts_sheaf}
-use Rattle.bmp_check.specs.TupleCounts.{tuple_count, CountsDegree, HasTupleCounts, AreTupleCounts}
+use Rattle.bmp_check.specs.TupleCounts.{tuple_count, CountsDegree, HasTupleCounts}
 use Rattle.bmp_check.proofs.FormLemmas.{part_formed}
 
 -- the number from the text is that of the sections
@@ -49,17 +46,16 @@ counts_more G m c D numbers counts {all} joined of has =
       ];
     }
 
--- a vertex shorter than the greatest has a block
+-- a vertex but the greatest has a block
 pub has_its_block :
-    (G : Graph) (b : DegreeBlocks) {v : ℕ} → HavePartLines v (G.prime - 1) b.given.degree b.given.parts.now →
-    length b.given.parts.now ≡ vertex_count G → b.degree ≤ b.given.degree → (x : ℕ) → x + 1 < vertex_count G → has_block b x ≡ true
-has_its_block G b formed counted degree x vertex =
-    let w : Written = record { degree = b.given.degree; parts = b.given.parts.now } in
-    let blocks = (part_formed (G.prime - 1) w formed x (omega (arith, counted))).blocks.0 in
-    and_from _ _ (lt-ltb x (length b.given.parts.now) (omega (arith, counted)))
-    (lt-ltb b.degree (length (part_of w x).blocks) (omega (arith, blocks)))
+    {most v : ℕ} (c : Written) → HavePartLines v most c.degree c.parts → (d : ℕ) → d ≤ c.degree → (x : ℕ) → x + 1 < length c.parts →
+    (ltb x (length c.parts) && ltb d (length (part_of c x).blocks)) ≡ true
+has_its_block {most} c formed d degree x vertex =
+    let blocks = (part_formed most c formed x vertex).blocks.0 in
+    and_from (ltb x (length c.parts)) (ltb d (length (part_of c x).blocks)) (lt-ltb x (length c.parts) (omega arith))
+    (lt-ltb d (length (part_of c x).blocks) (omega (arith, blocks)))
 
--- and a shorter vertex isn't the greatest
+-- a shorter vertex isn't the greatest
 pub not_greatest : (G : Graph) (x : ℕ) → x < vertex_count G → length_at G x < length_at G (vertex_count G - 1) → x + 1 < vertex_count G
 not_greatest G x vertex shorter = elim (cases_eq x (vertex_count G - 1)) [
   | inl last ↦ let same : length_at G x ≡ length_at G (vertex_count G - 1) = ap (length_at G) last in absurd (omega (arith, same, shorter))

@@ -16,4 +16,5 @@ pub mod Shaped
 pub mod ShapedViews
 pub mod NumberedBlocks
 pub mod DegreeBlocks
+pub mod Settings
 pub mod CheckErrors

@@ -1,8 +1,9 @@
 //! The check of one block.
-ghost use Rattle.std.specs.Prelude.{◌≡◌, ◌≢◌, OnOk, IfErr};
-ghost use Rattle.bmp_check.specs.declared.method.Method.TheVariants.{Spaces};
+ghost use Rattle.std.specs.Prelude.{◌≡◌, ◌≢◌, OnOk, IfErr, length};
+ghost use Rattle.bmp_check.specs.declared.method.Method.TheVariants.{Spaces, Levels};
 ghost use Rattle.bmp_check.specs.NumberedBlocks.{HasNumbered, PassesAt, IsRefusalAt};
-ghost use Rattle.bmp_check.specs.Shaped.{IsRoomFor};
+ghost use Rattle.bmp_check.specs.Settings.{shaped_in, IsSet};
+ghost use Rattle.bmp_check.specs.Shaped.{HasWidth, IsRoomFor};
 ghost use Rattle.bmp_check.specs.ShapedViews.{graph_in, method_at, cert_in, IsWhole};
 ghost use Rattle.bmp_check.specs.Verdicts.{HasBlock, BlockPasses, IsBlockRefusal};
 
@@ -12,8 +13,11 @@ use crate::method::Method;
 use crate::part::{block_of, part_of};
 use crate::refusal::Refusal;
 use crate::scratch::BlockScratch;
+use crate::setting::Setting;
 use crate::shaped::Shaped;
+use bmp_linear::Scratch;
 use bmp_sections::{Equations, Tuples};
+use bmp_sheaf::BoundaryRows;
 
 /// Makes the comparisons of a block by whole spaces: of kinds Section and Row with the edge equations over the vertices above its
 /// vertex, and then of kinds Cover, Source and Dual with the sections of its own kernel evidence.
@@ -28,28 +32,52 @@ fn check_by_spaces(s: &Shaped, x: u32, d: u32, scratch: &mut BlockScratch) -> Re
     ensures room { IsRoomFor (graph_in s.now) (method_at s.now) (cert_in s.now) scratch.new }
 {
     let sheaf = s.sheaf();
+    let block = block_of(part_of(s.given(), x), d);
     scratch.index.fill(sheaf, x, d);
     let equations = Equations::over(sheaf, x, d, &scratch.index);
     check_kernel_at(s, x, d, &equations, &mut scratch.numbers)?;
-    let block = block_of(part_of(s.given(), x), d);
     let tuples = Tuples::over(sheaf, x, d, &scratch.index, &block.kernel.basis);
     check_cover_at(s, x, d, &tuples, &mut scratch.numbers)
 }
 
+/// Makes the comparisons of a block by levels: of kinds Cover, Source and Dual with the members of the family over the longer
+/// vertices, and then of kind Kernel with the boundary map at its vertex.
+fn check_by_levels(s: &Setting, x: u32, d: u32, numbers: &mut Scratch) -> Result<(), Refusal>
+    requires set { IsSet s.now }
+    requires method { method_at (shaped_in s.now) ≡ Levels }
+    requires block { let shaped = shaped_in s.now in HasBlock (graph_in shaped) (cert_in shaped) x d }
+    requires width { let shaped = shaped_in s.now in
+        HasWidth (graph_in shaped) (method_at shaped) (cert_in shaped) (length numbers.old.first) }
+    ensures ok { let shaped = shaped_in s.now in
+        OnOk result (BlockPasses (graph_in shaped) (method_at shaped) (cert_in shaped) x d) }
+    ensures first { let shaped = shaped_in s.now in
+        IfErr result (IsBlockRefusal (graph_in shaped) (method_at shaped) (cert_in shaped) x d) }
+    ensures differ { IfErr result (λ r. r.left ≢ r.right) }
+    ensures width { length numbers.new.first ≡ length numbers.old.first }
+{
+    let shaped = s.shaped();
+    let block = block_of(part_of(shaped.given(), x), d);
+    let members = s.family(d).members(block.cover.covers.len());
+    check_cover_at(shaped, x, d, &members, numbers)?;
+    let boundary = BoundaryRows::of(shaped.sheaf(), x, d);
+    check_kernel_at(shaped, x, d, &boundary, numbers)
+}
+
 /// Makes the comparisons of the block number `i`, kind after kind. A refusal is the first that fails. Takes no memory, and whatever
 /// the scratch holds before, the answer is the same.
-pub fn check_block(s: &Shaped, i: u32, scratch: &mut BlockScratch) -> Result<(), Refusal>
-    requires whole { IsWhole s.now }
-    requires block { HasNumbered s.now i }
-    requires room { IsRoomFor (graph_in s.now) (method_at s.now) (cert_in s.now) scratch.old }
-    ensures ok { OnOk result (PassesAt s.now i) }
-    ensures first { IfErr result (IsRefusalAt s.now i) }
+pub fn check_block(s: &Setting, i: u32, scratch: &mut BlockScratch) -> Result<(), Refusal>
+    requires set { IsSet s.now }
+    requires block { HasNumbered (shaped_in s.now) i }
+    requires room { let shaped = shaped_in s.now in IsRoomFor (graph_in shaped) (method_at shaped) (cert_in shaped) scratch.old }
+    ensures ok { OnOk result (PassesAt (shaped_in s.now) i) }
+    ensures first { IfErr result (IsRefusalAt (shaped_in s.now) i) }
     ensures differ { IfErr result (λ r. r.left ≢ r.right) }
-    ensures room { IsRoomFor (graph_in s.now) (method_at s.now) (cert_in s.now) scratch.new }
+    ensures room { let shaped = shaped_in s.now in IsRoomFor (graph_in shaped) (method_at shaped) (cert_in shaped) scratch.new }
 {
-    let (x, d) = block_at(s.graph().vertices(), s.given().degree, i);
-    match s.given().method() {
-        Method::Spaces => check_by_spaces(s, x, d, scratch),
-        Method::Levels => unreachable!(),
+    let shaped = s.shaped();
+    let (x, d) = block_at(shaped.graph().vertices(), shaped.given().degree, i);
+    match shaped.given().method() {
+        Method::Spaces => check_by_spaces(shaped, x, d, scratch),
+        Method::Levels => check_by_levels(s, x, d, &mut scratch.numbers),
     }
 }

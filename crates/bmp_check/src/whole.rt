@@ -8,8 +8,9 @@ ghost use Rattle.bmp_cert.specs.JobViews.{job_of, graph_of, prepared_of};
 ghost use Rattle.bmp_check.specs.Accepted.{IsCheckable};
 ghost use Rattle.bmp_check.specs.BlockData.{top_vertex};
 ghost use Rattle.bmp_check.specs.CheckErrors.{IsRefusedBy};
+ghost use Rattle.bmp_check.specs.Settings.{shaped_in, IsSet};
 ghost use Rattle.bmp_check.specs.Shaped.{IsRoomFor};
-ghost use Rattle.bmp_check.specs.ShapedViews.{graph_in, method_at, cert_in, IsWhole};
+ghost use Rattle.bmp_check.specs.ShapedViews.{graph_in, method_at, cert_in};
 ghost use Rattle.bmp_check.specs.PartsSheaf.{parts_sheaf};
 ghost use Rattle.bmp_check.specs.Verdicts.{BlocksPass, IsFirstBlockRefusal, Passes, IsFirstRefusal};
 
@@ -18,7 +19,7 @@ use crate::blocks::block_count;
 use crate::given::Given;
 use crate::refusal::{CheckError, Refusal};
 use crate::scratch::{BlockScratch, scratch_for};
-use crate::shaped::Shaped;
+use crate::setting::Setting;
 use crate::top::check_top;
 use crate::written::{check_sizes, shaped_of};
 use bmp_cert::{Accepted, Cert, Parts, Ranks};
@@ -27,15 +28,18 @@ use std::alloc::Global;
 use std::thread::Threads;
 
 /// Checks the blocks in their order, up to the first that is refused.
-fn check_blocks(s: &Shaped, scratch: &mut BlockScratch) -> Result<(), Refusal>
-    requires whole { IsWhole s.now }
-    requires room { IsRoomFor (graph_in s.now) (method_at s.now) (cert_in s.now) scratch.old }
-    ensures ok { OnOk result (BlocksPass (graph_in s.now) (method_at s.now) (cert_in s.now)) }
-    ensures first { IfErr result (IsFirstBlockRefusal (graph_in s.now) (method_at s.now) (cert_in s.now)) }
+fn check_blocks(s: &Setting, scratch: &mut BlockScratch) -> Result<(), Refusal>
+    requires set { IsSet s.now }
+    requires room { let shaped = shaped_in s.now in IsRoomFor (graph_in shaped) (method_at shaped) (cert_in shaped) scratch.old }
+    ensures ok { let shaped = shaped_in s.now in
+        OnOk result (BlocksPass (graph_in shaped) (method_at shaped) (cert_in shaped)) }
+    ensures first { let shaped = shaped_in s.now in
+        IfErr result (IsFirstBlockRefusal (graph_in shaped) (method_at shaped) (cert_in shaped)) }
     ensures differ { IfErr result (λ r. r.left ≢ r.right) }
 {
-    let vertices = s.graph().vertices();
-    'each: for i in 0..block_count(vertices, s.given().degree) {
+    let shaped = s.shaped();
+    let vertices = shaped.graph().vertices();
+    'each: for i in 0..block_count(vertices, shaped.given().degree) {
         check_block(s, i, scratch)?;
     }
     Ok(())
@@ -77,8 +81,9 @@ pub fn check_graph(
     let sizes = check_sizes(alloc, graph, &given)?;
     check_top(&given)?;
     let shaped = shaped_of(alloc, graph, &given, sizes)?;
-    let mut scratch = scratch_for(alloc, &shaped)?;
-    check_blocks(&shaped, &mut scratch)?;
+    let setting = Setting::of(alloc, shaped)?;
+    let mut scratch = scratch_for(alloc, setting.shaped())?;
+    check_blocks(&setting, &mut scratch)?;
     let ranks = Ranks::of_parts(alloc, parts, degree)?;
     Ok(ranks)
 }
