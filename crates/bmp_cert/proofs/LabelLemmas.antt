@@ -1,5 +1,5 @@
 -- The labels of a job: where it has a graph, no label is zero; else the first that is zero is the first rule that fails.
-use Rattle.std.proofs.Common.{◌≡◌, ◌≢◌, ℕ, ◌<◌, List, [], ◌∷◌, length, get_or, Some, slice_get, pos, sym, ap, subst, ◌∙◌, arith}
+use Rattle.std.proofs.Common.{◌≡◌, ◌≢◌, ℕ, ◌<◌, List, [], ◌∷◌, length, get_or, Some, slice_get, ℤ, pos, sym, ap, subst, ◌∙◌, arith}
 use Rattle.std.proofs.lemmas.List.{get_or-map}
 use Rattle.std.proofs.lemmas.Option.{get_or_from_slice_get}
 use Rattle.std.proofs.lemmas.Int.{ints}
@@ -25,7 +25,7 @@ use Rattle.bmp_bruhat.proofs.OneResidue.{one_residue}
 use Rattle.bmp_cert.specs.declared.job.Job.{Job}
 use Rattle.bmp_cert.specs.declared.job_fault.JobFault.TheVariants.{ZeroLabel}
 use Rattle.bmp_cert.specs.JobGraphs.{matrix_of_job, by_weights, form_of_job, IsSystemOf}
-use Rattle.bmp_cert.specs.JobRules.{HasLabels, IsFirstZeroLabelAt, size_rules, KeepsAll, IsFirstFault}
+use Rattle.bmp_cert.specs.JobRules.{HasZeroLabelAt, HasLabels, size_rules, KeepsAll, IsFirstFault}
 use Rattle.bmp_cert.proofs.RuleLemmas.{fails_behind}
 
 -- ---- in a graph no label is zero
@@ -84,7 +84,7 @@ module _ (j : Job) (roots : Roots) (vertices : List Elem) (system : IsSystemOf j
   -- the first zero label is the first fault of a job that keeps the rules before
   pub label_fault : (x y : ℕ) → KeepsAll size_rules j → IsFirstZeroLabel (matrix_of roots) (positive_roots_of roots) vertices j.prime (form_of_job j) x y → IsFirstFault j (ZeroLabel x y)
   label_fault x y before first =
-      let here = record { roots = roots; vertices = vertices; system = system; interval = interval; zero = first.here } in
+      let here : HasZeroLabelAt j x y = record { roots = roots; vertices = vertices; system = system; interval = interval; zero = first.here } in
       record {
         fails = fails_behind j size_rules (HasLabels ∷ []) 0 before (λ labels. labels x y here);
         values = record { roots = roots; vertices = vertices; system = system; interval = interval; first = first };

@@ -1,5 +1,5 @@
 -- The line of a lattice as a pair of a reader and a printed form.
-use Rattle.std.proofs.Common.{◌≡◌, ℕ, zero, suc, ◌++◌, Bool, true, false, List, [], Result, Ok, refl, sym, ap, subst, ◌∙◌, arith, rules, codes}
+use Rattle.std.proofs.Common.{◌≡◌, ℕ, zero, suc, ◌++◌, ◌==◌, Bool, true, false, cond, List, [], Result, Ok, refl, sym, ap, subst, ◌∙◌, arith, rules, codes}
 use Rattle.std.specs.List.{AllByRecursion}
 use Rattle.std.proofs.lemmas.List.{append-nil}
 use Rattle.bmp_text.specs.declared.fault.TextFault.{TextFault}
@@ -26,9 +26,12 @@ number_of zero h = refl
 number_of (suc zero) h = refl
 number_of (suc (suc n)) h = absurd (omega (arith, h.1))
 
+stated_by : (least : Bool) → has_line (cond least Root Weight) ≡ true
+stated_by true = refl
+stated_by false = refl
+
 stated_of : (n : ℕ) → has_line (lattice_of n) ≡ true
-stated_of zero = refl
-stated_of (suc n) = refl
+stated_of n = stated_by (n == 0)
 
 in_range : (l : Lattice) → IsFrom 0 1 (lattice_number l)
 in_range Plain = (omega arith, omega arith)

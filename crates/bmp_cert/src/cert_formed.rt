@@ -80,6 +80,13 @@ fn are_degrees(degrees: &Degrees, most: u8) -> bool
     true
 }
 
+// By whole section spaces there is a cover for each vector.
+fn are_as_many(version: u8, covers: u64, vectors: u64) -> bool
+    ensures { IsTrue result ↔ (version ≡ 1 → covers ≡ vectors) }
+{
+    version != 1 || covers == vectors
+}
+
 // The block of a degree, for a vertex with generators of these degrees.
 fn is_block(block: &DegreeBlock, version: u8, most: u8, degrees: &Degrees, degree: u64) -> bool
     ensures { IsTrue result
@@ -89,7 +96,7 @@ fn is_block(block: &DegreeBlock, version: u8, most: u8, degrees: &Degrees, degre
     let pivots = u64::from(block.kernel.pivots.len());
     let vectors = u64::from(block.kernel.basis.len());
     let covers = u64::from(block.cover.covers.len());
-    (version != 1 || covers == vectors)
+    are_as_many(version, covers, vectors)
         && are_rising(&block.kernel.pivots, pivots)
         && are_vectors(&block.kernel.basis, most, vectors)
         && are_vectors(&block.kernel.rows, most, pivots)
