@@ -16,7 +16,8 @@ use Rattle.bmp_cover.specs.CoverChecks.{CoverCompares}
 use Rattle.bmp_cover.specs.CoverInputs.{HasTuples}
 use Rattle.bmp_cover.specs.declared.fault.CoverFault.{CoverFault}
 use Rattle.bmp_levels.specs.Levels.{level_vertices}
-use Rattle.bmp_levels.specs.Lists.{SameList}
+use Rattle.bmp_levels.specs.Lists.{first_members, SameList}
+use Rattle.bmp_levels.specs.Runs.{FamilyTable, list_of}
 use Rattle.bmp_levels.specs.Families.{stalk_size, family, member_count}
 use Rattle.bmp_levels.specs.Statements.{BlocksAreBelow}
 use Rattle.bmp_levels.specs.Extensions.{HasTop, AllFit}
@@ -35,7 +36,10 @@ use Rattle.bmp_check.specs.Fits.{IsVectorIn}
 use Rattle.bmp_check.specs.Methods.{method_of}
 use Rattle.bmp_check.specs.PartsSheaf.{parts_sheaf}
 use Rattle.bmp_check.specs.Shaped.{IsShaped}
-use Rattle.bmp_check.specs.ShapedViews.{written_in}
+use Rattle.bmp_check.specs.declared.setting.Setting.{Setting}
+use Rattle.bmp_check.specs.declared.shaped.Shaped.{Shaped}
+use Rattle.bmp_check.specs.Settings.{HoldsFamilies, AreFamilies, shaped_in, IsSet}
+use Rattle.bmp_check.specs.ShapedViews.{written_in, graph_in, method_at, cert_in, IsWhole}
 use Rattle.bmp_check.specs.Verdicts.{HasBlock, TopPasses, CoverComparesAt}
 use Rattle.bmp_check.proofs.InputLemmas.{IsAtBlock, at_block, prime_is, has_stalks}
 use Rattle.bmp_check.proofs.CheckableLemmas.{over_field}
@@ -130,3 +134,35 @@ module _ {G : Graph} {v : ℕ} {c : Written} {t : SizeTable} {F : Type 0} {s : S
       same_comparisons =
           comparisons_agree G (parts_sheaf G c) x d list (family_at G c x d) (block_of c x d).cover (over_field whole.checkable.on)
           whole.checkable.on.few_variables same_above (λ y high. family_size G (parts_sheaf G c) d (top_vertex G) blocks (suc (length_at G x)) y)
+
+-- ---- the members that a block speaks of
+
+module _
+    {G : Graph} {v : ℕ} {c : Written} {t : SizeTable} {F : Type 0} {s : SheafState F} (whole : IsShaped G v c t s) (levels : method_of v ≡ Levels)
+    {x d : ℕ} (block : HasBlock G c x d) {own : DegreeBlock} (is : own ≡ block_of c x d) where
+  covers_are : length own.cover.covers ≡ (family_at G c x d).count
+  covers_are = ap (λ (b : DegreeBlock). length b.cover.covers) is ∙ (at_level whole levels x d block).fits.cover_for_each
+
+  shorter : suc (length_at G x) ≤ length_at G (top_vertex G)
+  shorter = whole.checkable.on.last_is_top.longest x (omega (arith, block.0)) (λ same. omega (arith, same, block.0))
+
+  module _ {f : FamilyTable} (holds : HoldsFamilies G c d f) where
+    pub members_there : {n : ℕ} → n ≡ length own.cover.covers → n ≤ f.count
+    members_there counted = let few = (holds (suc (length_at G x)) shorter).0 in omega (arith, few, counted, covers_are)
+
+    -- m and h are the number and the family as they are read
+    pub members_same :
+        {m n : ℕ} {h : FamilyTable} → m ≡ n → h ≡ f → n ≡ length own.cover.covers →
+        SameList (level_vertices G (suc (length_at G x))) (first_members m (list_of h)) (family_at G c x d)
+    members_same {m} {n} {h} number family counted =
+        subst (λ k. SameList (level_vertices G (suc (length_at G x))) (first_members k (list_of h)) (family_at G c x d)) (sym (number ∙ counted ∙ covers_are))
+        (subst (λ (g : FamilyTable). SameList (level_vertices G (suc (length_at G x))) (first_members (family_at G c x d).count (list_of g)) (family_at G c x d)) (sym family)
+        (holds (suc (length_at G x)) shorter).1)
+
+-- what is set holds of the parts as they are read
+module _ {s : Setting} {u : Shaped} (same : u ≡ shaped_in s) (set : IsSet s) where
+  pub set_whole : IsWhole u
+  set_whole = subst IsWhole (sym same) set.whole
+
+  pub set_families : method_at u ≡ Levels → AreFamilies (graph_in u) (cert_in u) ((cert_in u).degree + 1) s.families.items
+  set_families = subst (λ (w : Shaped). method_at w ≡ Levels → AreFamilies (graph_in w) (cert_in w) ((cert_in w).degree + 1) s.families.items) (sym same) set.families

@@ -1,5 +1,5 @@
 -- What the checks of a block are given, and what they answer, of the sheaf in memory and of the written one.
-use Rattle.std.proofs.Common.{◌≡◌, ℕ, ◌+◌, ◌<◌, ◌≤◌, ◌^◌, max, List, [], length, get_or, refl, sym, ap, subst, ◌∙◌, arith}
+use Rattle.std.proofs.Common.{◌≡◌, ◌≢◌, ◌↔◌, ℕ, ◌+◌, ◌<◌, ◌≤◌, ◌^◌, max, List, [], length, get_or, refl, sym, ap, ap₂, subst, ◌∙◌, arith}
 use Rattle.std.specs.List.{All}
 use Rattle.std.proofs.lemmas.List.Elements.{All-weaker, All-get_or}
 use Rattle.bmp_field.specs.declared.prime.PrimeField.{PrimeField}
@@ -22,6 +22,9 @@ use Rattle.bmp_sections.specs.TupleLists.{TupleList, tuples_over}
 use Rattle.bmp_sections.specs.Indexes.{HasRoom}
 use Rattle.bmp_sections.proofs.EquationNumbers.{equation_matrix_below}
 use Rattle.bmp_sheaf.proofs.BoundaryMaps.{boundary_numbers_below}
+use Rattle.bmp_cover.specs.CoverChecks.{CoverCompares, CoverPasses, IsFirstCoverFailure}
+use Rattle.bmp_cover.specs.declared.fault.CoverFault.{CoverFault}
+use Rattle.bmp_linear.specs.declared.fault.RowFault.{RowFault}
 use Rattle.bmp_cover.specs.CoverInputs.{HasStalks, HasTuples, CoverFits}
 use Rattle.bmp_cover.specs.Counts.{generators_in}
 use Rattle.bmp_cert.specs.Counts.{Written, part_of}
@@ -38,7 +41,8 @@ use Rattle.bmp_check.specs.Shaped.{IsSheafOf, IsShaped, HasWidth, IsRoomFor}
 use Rattle.bmp_check.specs.ShapedViews.{written_in}
 use Rattle.bmp_check.specs.PartsSheaf.{parts_sheaf}
 use Rattle.bmp_check.specs.Sizes.{counts_at, largest}
-use Rattle.bmp_check.specs.Verdicts.{HasBlock, CountPasses}
+use Rattle.bmp_check.specs.Verdicts.{HasBlock, CountPasses, kernel_refusal, CoverComparesAt}
+use Rattle.bmp_check.specs.declared.refusal.Refusal.{Refusal}
 use Rattle.bmp_check.proofs.CheckableLemmas.{over_field}
 use Rattle.bmp_check.proofs.FitLemmas.{shapes_fit}
 use Rattle.bmp_check.proofs.SheafLemmas.{in_memory, as_written, is_there, above_is_there}
@@ -66,6 +70,30 @@ at_block {G} {v} {c} whole x d block =
       fits = fits.blocks x d block;
     }
 
+-- of an equal method and an equal sheaf
+pub read_at : {G : Graph} {m k : Method} {c : Written} {F : Type 0} {s t : SheafState F} {x d : ℕ} → m ≡ k → t ≡ s → IsAtBlock G m c s x d → IsAtBlock G k c t x d
+read_at {G} {m} {k} {c} {F} {s} {t} {x} {d} method sheaf at =
+    subst (λ (n : Method). IsAtBlock G n c t x d) method (subst (λ (u : SheafState F). IsAtBlock G m c u x d) (sym sheaf) at)
+
+-- rows and tuples over equal sheaves
+pub equations_read :
+    {F : Type 0} {s t : SheafState F} {x y d e : ℕ} → t ≡ s → y ≡ x → e ≡ d → equation_matrix t.graph (sheaf_of t) y e ≡ equation_matrix s.graph (sheaf_of s) x d
+equations_read {F} {s} {t} {x} {y} {d} {e} sheaf vertex degree =
+    ap (λ (u : SheafState F). equation_matrix u.graph (sheaf_of u) y e) sheaf ∙ ap₂ (λ (a b : ℕ). equation_matrix s.graph (sheaf_of s) a b) vertex degree
+
+pub boundaries_read :
+    {F : Type 0} {s t : SheafState F} {x y d e : ℕ} → t ≡ s → y ≡ x → e ≡ d → boundary_matrix t.graph (sheaf_of t) y e ≡ boundary_matrix s.graph (sheaf_of s) x d
+boundaries_read {F} {s} {t} {x} {y} {d} {e} sheaf vertex degree =
+    ap (λ (u : SheafState F). boundary_matrix u.graph (sheaf_of u) y e) sheaf ∙ ap₂ (λ (a b : ℕ). boundary_matrix s.graph (sheaf_of s) a b) vertex degree
+
+pub tuples_read :
+    {F : Type 0} {s t : SheafState F} {x y d e : ℕ} {vs ws : List (List Entry)} → t ≡ s → y ≡ x → e ≡ d → ws ≡ vs →
+    tuples_over t.graph (sheaf_of t) y e ws ≡ tuples_over s.graph (sheaf_of s) x d vs
+tuples_read {F} {s} {t} {x} {y} {d} {e} {vs} {ws} sheaf vertex degree vectors =
+    ap (λ (u : SheafState F). tuples_over u.graph (sheaf_of u) y e ws) sheaf
+    ∙ ap₂ (λ (a b : ℕ). tuples_over s.graph (sheaf_of s) a b ws) vertex degree
+    ∙ ap (λ (us : List (List Entry)). tuples_over s.graph (sheaf_of s) x d us) vectors
+
 -- the block as it is read
 module _ {g given : Given} {part : VertexPart} {x d : ℕ} (given_is : g ≡ given) (part_is : part ≡ part_of (written_in g) x) where
   part_same : part ≡ part_of (written_in given) x
@@ -76,6 +104,12 @@ module _ {g given : Given} {part : VertexPart} {x d : ℕ} (given_is : g ≡ giv
 
   pub read_block : {own : DegreeBlock} → own ≡ get_or part.blocks d no_block → own ≡ block_of (written_in given) x d
   read_block own_is = own_is ∙ ap (λ (v : VertexPart). get_or v.blocks d no_block) part_same
+
+-- the two numbers of a refusal are those of the comparison
+pub kernel_differs :
+    {m : Method} {c : Written} {x d : ℕ} {fault : RowFault} {r : Refusal} → r ≡ kernel_refusal m c x d fault → fault.left ≢ fault.right → r.left ≢ r.right
+kernel_differs {Spaces} refusal differs same = differs (sym (ap (λ (q : Refusal). q.left) refusal) ∙ same ∙ ap (λ (q : Refusal). q.right) refusal)
+kernel_differs {Levels} refusal differs same = differs (sym (ap (λ (q : Refusal). q.left) refusal) ∙ same ∙ ap (λ (q : Refusal). q.right) refusal)
 
 -- the prime of the field as it is read
 pub field_prime : {f own : PrimeField} {s t : SheafState PrimeField} {p : ℕ} → f ≡ own → own.prime ≡ s.graph.prime → s ≡ t → t.graph.prime ≡ p → f.prime ≡ p
@@ -127,8 +161,10 @@ module _ {G : Graph} {m : Method} {c : Written} {F : Type 0} {s : SheafState F} 
         let all = width.sizes x d at.block in
         subst (λ (k : Matrix). k.cols ≤ n) (sym matrix) (omega (arith, all))
 
-    pub kernel_as : (P : Matrix → KernelEvidence → Type 0) → P M own.kernel → P (matrix_at G m c x d) (block_of c x d).kernel
-    kernel_as P h = subst (λ (n : Matrix). P n (block_of c x d).kernel) matrix (subst (λ (b : DegreeBlock). P M b.kernel) is h)
+    pub kernel_as : {p : ℕ} → p ≡ G.prime → (P : ℕ → Matrix → KernelEvidence → Type 0) → P p M own.kernel → P G.prime (matrix_at G m c x d) (block_of c x d).kernel
+    kernel_as {p} prime P h =
+        subst (λ q. P q (matrix_at G m c x d) (block_of c x d).kernel) prime
+        (subst (λ (n : Matrix). P p n (block_of c x d).kernel) matrix (subst (λ (b : DegreeBlock). P p M b.kernel) is h))
 
   -- the cover evidence, for so many tuples
   module _ {count : ℕ} {own : DegreeBlock} (is : own ≡ block_of c x d) (as_many : count ≡ (tuples_at G m c x d).count) where
@@ -161,6 +197,30 @@ module _ {G : Graph} {m : Method} {c : Written} {F : Type 0} {s : SheafState F} 
     cover_fits =
         subst (λ k. CoverFits s x d k own.cover) (sym as_many)
         (subst (λ (b : DegreeBlock). CoverFits s x d (tuples_at G m c x d).count b.cover) (sym is) written_fits)
+
+  -- what is compared in memory is compared with what is written
+  module _ {own : DegreeBlock} (is : own ≡ block_of c x d) {t : SheafState F} (sheaf : t ≡ s) {list : TupleList}
+      (same : (r : CoverFault) → CoverCompares G (parts_sheaf G c) x d list (block_of c x d).cover r ↔ CoverComparesAt G m c x d r) where
+    abbrev in_check : CoverFault → Type 0
+    in_check = CoverCompares t.graph (sheaf_of t) x d list own.cover
+
+    as_checked : (P : (CoverFault → Type 0) → Type 0) → P in_check → P (CoverCompares G (parts_sheaf G c) x d list (block_of c x d).cover)
+    as_checked P h =
+        to_written (λ (H : Graph) (S : SheafData). P (CoverCompares H S x d list (block_of c x d).cover))
+        (subst (λ (u : SheafState F). P (CoverCompares u.graph (sheaf_of u) x d list (block_of c x d).cover)) sheaf
+        (subst (λ (b : DegreeBlock). P (CoverCompares t.graph (sheaf_of t) x d list b.cover)) is h))
+
+    pub cover_passes : CoverPasses in_check → CoverPasses (CoverComparesAt G m c x d)
+    cover_passes h = let passes = as_checked CoverPasses h in λ r compared. passes r ((same r).1 compared)
+
+    pub cover_first : (fault : CoverFault) → IsFirstCoverFailure in_check fault → IsFirstCoverFailure (CoverComparesAt G m c x d) fault
+    cover_first fault h =
+        let first = as_checked (λ (Compares : CoverFault → Type 0). IsFirstCoverFailure Compares fault) h in
+        record {
+          compared = (same fault).0 first.compared;
+          differs = first.differs;
+          earlier = λ r compared before. first.earlier r ((same r).1 compared) before;
+        }
 
   pub cover_room : (n : ℕ) → HasWidth G m c n → IsRoom s d n
   cover_room n width y there =

@@ -12,6 +12,7 @@ pub mod FitLemmas
 pub mod SheafLemmas
 pub mod StalkLemmas
 pub mod InputLemmas
+pub mod RefusalLemmas
 pub mod RoomLemmas
 pub mod NumberLemmas
 pub mod WholeLemmas

@@ -2,7 +2,7 @@
 ghost use Rattle.std.specs.Prelude.{◌≡◌, ◌≢◌, OnOk, IfErr, length};
 ghost use Rattle.bmp_check.specs.declared.method.Method.TheVariants.{Spaces, Levels};
 ghost use Rattle.bmp_check.specs.NumberedBlocks.{HasNumbered, PassesAt, IsRefusalAt};
-ghost use Rattle.bmp_check.specs.Settings.{shaped_in, IsSet};
+ghost use Rattle.bmp_check.specs.Settings.{HoldsFamilies, shaped_in, IsSet};
 ghost use Rattle.bmp_check.specs.Shaped.{HasWidth, IsRoomFor};
 ghost use Rattle.bmp_check.specs.ShapedViews.{graph_in, method_at, cert_in, IsWhole};
 ghost use Rattle.bmp_check.specs.Verdicts.{HasBlock, BlockPasses, IsBlockRefusal};
@@ -15,6 +15,7 @@ use crate::refusal::Refusal;
 use crate::scratch::BlockScratch;
 use crate::setting::Setting;
 use crate::shaped::Shaped;
+use bmp_levels::Family;
 use bmp_linear::Scratch;
 use bmp_sections::{Equations, Tuples};
 use bmp_sheaf::BoundaryRows;
@@ -41,26 +42,31 @@ fn check_by_spaces(s: &Shaped, x: u32, d: u32, scratch: &mut BlockScratch) -> Re
 }
 
 /// Makes the comparisons of a block by levels: of kinds Cover, Source and Dual with the members of the family over the longer
-/// vertices, and then of kind Kernel with the boundary map at its vertex.
-fn check_by_levels(s: &Setting, x: u32, d: u32, numbers: &mut Scratch) -> Result<(), Refusal>
-    requires set { IsSet s.now }
-    requires method { method_at (shaped_in s.now) ≡ Levels }
-    requires block { let shaped = shaped_in s.now in HasBlock (graph_in shaped) (cert_in shaped) x d }
-    requires width { let shaped = shaped_in s.now in
-        HasWidth (graph_in shaped) (method_at shaped) (cert_in shaped) (length numbers.old.first) }
-    ensures ok { let shaped = shaped_in s.now in
-        OnOk result (BlockPasses (graph_in shaped) (method_at shaped) (cert_in shaped) x d) }
-    ensures first { let shaped = shaped_in s.now in
-        IfErr result (IsBlockRefusal (graph_in shaped) (method_at shaped) (cert_in shaped) x d) }
+/// vertices, which are the first of those of a family over all vertices; and then of kind Kernel with the boundary map at its
+/// vertex.
+fn check_by_levels(
+    s: &Shaped,
+    family: &Family,
+    x: u32,
+    d: u32,
+    numbers: &mut Scratch,
+) -> Result<(), Refusal>
+    requires whole { IsWhole s.now }
+    requires method { method_at s.now ≡ Levels }
+    requires family { HoldsFamilies (graph_in s.now) (cert_in s.now) d family.now }
+    requires block { HasBlock (graph_in s.now) (cert_in s.now) x d }
+    requires width { HasWidth (graph_in s.now) (method_at s.now) (cert_in s.now) (length numbers.old.first) }
+    ensures ok { OnOk result (BlockPasses (graph_in s.now) (method_at s.now) (cert_in s.now) x d) }
+    ensures first { IfErr result (IsBlockRefusal (graph_in s.now) (method_at s.now) (cert_in s.now) x d) }
     ensures differ { IfErr result (λ r. r.left ≢ r.right) }
     ensures width { length numbers.new.first ≡ length numbers.old.first }
 {
-    let shaped = s.shaped();
-    let block = block_of(part_of(shaped.given(), x), d);
-    let members = s.family(d).members(block.cover.covers.len());
-    check_cover_at(shaped, x, d, &members, numbers)?;
-    let boundary = BoundaryRows::of(shaped.sheaf(), x, d);
-    check_kernel_at(shaped, x, d, &boundary, numbers)
+    let sheaf = s.sheaf();
+    let block = block_of(part_of(s.given(), x), d);
+    let members = family.members(block.cover.covers.len());
+    check_cover_at(s, x, d, &members, numbers)?;
+    let boundary = BoundaryRows::of(sheaf, x, d);
+    check_kernel_at(s, x, d, &boundary, numbers)
 }
 
 /// Makes the comparisons of the block number `i`, kind after kind. A refusal is the first that fails. Takes no memory, and whatever
@@ -78,6 +84,6 @@ pub fn check_block(s: &Setting, i: u32, scratch: &mut BlockScratch) -> Result<()
     let (x, d) = block_at(shaped.graph().vertices(), shaped.given().degree, i);
     match shaped.given().method() {
         Method::Spaces => check_by_spaces(shaped, x, d, scratch),
-        Method::Levels => check_by_levels(s, x, d, &mut scratch.numbers),
+        Method::Levels => check_by_levels(shaped, s.family(d), x, d, &mut scratch.numbers),
     }
 }

@@ -5,14 +5,16 @@ use Rattle.bmp_linear.specs.Faults.{AllPass, IsFirstFailure}
 use Rattle.bmp_linear.specs.KernelChecks.{KernelCompares}
 use Rattle.bmp_linear.specs.declared.blocks.DegreeBlock.{DegreeBlock}
 use Rattle.bmp_linear.specs.declared.evidence.KernelEvidence.{KernelEvidence}
-use Rattle.bmp_check.specs.declared.refusal.Refusal.{Refusal}
-use Rattle.bmp_check.proofs.InputLemmas.{at_block, read_there, read_block, field_prime, prime_is, kernel_numbers, kernel_fits, kernel_below, kernel_room, kernel_as}
+use Rattle.bmp_check.specs.declared.method.Method.{Method}
+use Rattle.bmp_check.specs.declared.given.Given.{Given}
+use Rattle.bmp_check.specs.Methods.{method_of}
+use Rattle.bmp_check.specs.ShapedViews.{cert_in, method_at}
+use Rattle.bmp_check.specs.Verdicts.{kernel_refusal}
+use Rattle.bmp_check.proofs.InputLemmas.{at_block, read_there, read_block, field_prime, prime_is, kernel_numbers, kernel_fits, kernel_below, kernel_room, kernel_as, kernel_differs}
 use Rattle.bmp_check.proofs.evidence.check_kernel_at.Goals as goal
 
 pub block_of-block-requires : goal.block_of-block-requires
-block_of-block-requires g c =
-    let at = at_block c.requires.whole c.args.x c.args.d c.requires.block in
-    read_there c.given.ensures c.part_of.ensures at.there
+block_of-block-requires g c = read_there c.given.ensures c.part_of.ensures (at_block c.requires.whole c.args.x c.args.d c.requires.block).there
 
 pub check_kernel-requires-clause-numbers : goal.check_kernel-requires-clause-numbers
 check_kernel-requires-clause-numbers g c =
@@ -44,8 +46,7 @@ returns-in-Ok-clause-ok g c =
     let at = at_block c.requires.whole c.args.x c.args.d c.requires.block in
     let is = read_block c.given.ensures c.part_of.ensures c.block_of-block.ensures in
     let prime = field_prime c.field-field.ensures.field c.field-field.ensures.size c.sheaf.ensures (prime_is at) in
-    kernel_as at c.requires.matrix is (λ (m : Matrix) (e : KernelEvidence). AllPass (KernelCompares _ m e))
-    (subst (λ p. AllPass (KernelCompares p (g.A.Rows.matrix c.args.rows.now) c.block_of-block.result.now.kernel)) prime c.in-Ok.ensures.ok)
+    kernel_as at c.requires.matrix is prime (λ (p : ℕ) (m : Matrix) (e : KernelEvidence). AllPass (KernelCompares p m e)) c.in-Ok.ensures.ok
 
 pub returns-in-Err-clause-first : goal.returns-in-Err-clause-first
 returns-in-Err-clause-first g c =
@@ -53,4 +54,15 @@ returns-in-Err-clause-first g c =
     let is = read_block c.given.ensures c.part_of.ensures c.block_of-block.ensures in
     let prime = field_prime c.field-field.ensures.field c.field-field.ensures.size c.sheaf.ensures (prime_is at) in
     let fault = c.in-Err.fault in
-    ?
+    let method = c.method.ensures ∙ ap (λ (e : Given). method_of e.version) c.given-2.ensures in
+    let counted = c.from.ensures ∙ c.len.ensures ∙ ap (λ (b : DegreeBlock). length b.kernel.basis) is in (
+      fault,
+      kernel_as at c.requires.matrix is prime (λ (p : ℕ) (m : Matrix) (e : KernelEvidence). IsFirstFailure (KernelCompares p m e) fault) c.in-Err.ensures.fault,
+      c.kernel_refusal.ensures (cert_in c.args.s.now) counted ∙ ap (λ (m : Method). kernel_refusal m (cert_in c.args.s.now) c.args.x c.args.d fault) method,
+    )
+
+pub returns-in-Err-clause-differ : goal.returns-in-Err-clause-differ
+returns-in-Err-clause-differ g c =
+    let is = read_block c.given.ensures c.part_of.ensures c.block_of-block.ensures in
+    let counted = c.from.ensures ∙ c.len.ensures ∙ ap (λ (b : DegreeBlock). length b.kernel.basis) is in
+    kernel_differs (c.kernel_refusal.ensures (cert_in c.args.s.now) counted) c.in-Err.ensures.fault.differs
