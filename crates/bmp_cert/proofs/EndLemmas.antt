@@ -80,7 +80,8 @@ no_end (a ∷ []) rest h e = absurd cc
 no_end (a ∷ (b ∷ w)) rest h e =
     let first : a ≡ 101 = cc in
     let second : b ≡ 110 = cc in
-    let both : not ((101 == 101) && (110 == 110)) ≡ true = rw (← first, ← second) h in
+    let both : false ≡ true =
+    subst (λ (x : ℕ). not ((x == 101) && (110 == 110)) ≡ true) first (subst (λ (y : ℕ). not ((a == 101) && (y == 110)) ≡ true) second h) in
     absurd cc
 
 -- a line that begins with the keyword
