@@ -5,6 +5,8 @@ pub mod JobPairs
 pub mod VectorPairs
 pub mod BlockPairs
 pub mod CertPairs
+pub mod EndLemmas
+pub mod GrammarEnds
 pub mod JobPrinting
 pub mod VectorLemmas
 pub mod PartLemmas

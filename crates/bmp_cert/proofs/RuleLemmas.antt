@@ -17,10 +17,23 @@ module _ (j : Job) where
   keeps_front [] back k = tt
   keeps_front (rule ∷ others) back k = (k.0, keeps_front others back k.1)
 
+  pub keeps_back : (front back : List Rule) → KeepsAll (front ++ back) j → KeepsAll back j
+  keeps_back [] back k = k
+  keeps_back (rule ∷ others) back k = keeps_back others back k.1
+
   -- a rule that fails behind those that are kept
   pub fails_behind : (front back : List Rule) (n : ℕ) → KeepsAll front j → FailsAt back n j → FailsAt (front ++ back) (behind front n) j
   fails_behind [] back n kept fails = fails
   fails_behind (rule ∷ others) back n kept fails = (kept.0, fails_behind others back n kept.1 fails)
+
+  -- where a rule fails behind others, those are kept, and it fails where it stands
+  pub keeps_before : (front back : List Rule) (n : ℕ) → FailsAt (front ++ back) (behind front n) j → KeepsAll front j
+  keeps_before [] back n fails = tt
+  keeps_before (rule ∷ others) back n fails = (fails.0, keeps_before others back n fails.1)
+
+  pub fails_there : (front back : List Rule) (n : ℕ) → FailsAt (front ++ back) (behind front n) j → FailsAt back n j
+  fails_there [] back n fails = fails
+  fails_there (rule ∷ others) back n fails = fails_there others back n fails.1
 
   -- where a rule of a list fails, the list isn't kept
   pub not_kept : (list : List Rule) (n : ℕ) → FailsAt list n j → KeepsAll list j → ⊥

@@ -6,6 +6,7 @@ pub mod JobGrammar
 pub mod VectorGrammar
 pub mod BlockGrammar
 pub mod CertGrammar
+pub mod TextEnds
 pub mod Counts
 pub mod JobGraphs
 pub mod JobRules

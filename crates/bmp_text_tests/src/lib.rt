@@ -4,6 +4,8 @@
 #[cfg(test)]
 mod cert;
 #[cfg(test)]
+mod changed_lines;
+#[cfg(test)]
 mod jobs;
 #[cfg(test)]
 mod ports;

@@ -1,4 +1,4 @@
-use Rattle.std.proofs.Common.{◌*◌, [], ◌∷◌, arith}
+use Rattle.std.proofs.Common.{◌*◌, [], ◌∷◌, refl, arith}
 use Rattle.bmp_interval.specs.IntervalViews.{system_of, vertices_of}
 use Rattle.bmp_cert.specs.JobRules.{HasDegree, IsSmall, HasSize, interval_rules, size_rules, IsFirstFault}
 use Rattle.bmp_cert.specs.declared.job_fault.JobFault.TheVariants.{DegreeBound, TooLarge}
@@ -6,8 +6,8 @@ use Rattle.bmp_cert.proofs.RuleLemmas.{keeps_both, fails_behind, not_kept}
 use Rattle.bmp_cert.proofs.SystemLemmas.{size_is, not_small}
 use Rattle.bmp_cert.proofs.rules.check_size.Goals as goal
 
-pub returns-then-degree-gt-MAX_DEGREE-clause-fault : goal.returns-then-degree-gt-MAX_DEGREE-clause-fault
-returns-then-degree-gt-MAX_DEGREE-clause-fault c = record {
+pub returns-then-j-gt-MAX_DEGREE-clause-fault : goal.returns-then-j-gt-MAX_DEGREE-clause-fault
+returns-then-j-gt-MAX_DEGREE-clause-fault c = record {
   fails = fails_behind c.args.j.now interval_rules (HasDegree ∷ []) 0 c.requires.before (λ low. absurd (omega arith));
   values = refl;
 }
