@@ -139,14 +139,14 @@ module _ {G : Graph} {v : ℕ} {c : Written} {t : SizeTable} {F : Type 0} {s : S
 
 module _
     {G : Graph} {v : ℕ} {c : Written} {t : SizeTable} {F : Type 0} {s : SheafState F} (whole : IsShaped G v c t s) (levels : method_of v ≡ Levels)
-    {x d : ℕ} (block : HasBlock G c x d) {own : DegreeBlock} (is : own ≡ block_of c x d) where
+    (x d : ℕ) (block : HasBlock G c x d) {own : DegreeBlock} (is : own ≡ block_of c x d) where
   covers_are : length own.cover.covers ≡ (family_at G c x d).count
   covers_are = ap (λ (b : DegreeBlock). length b.cover.covers) is ∙ (at_level whole levels x d block).fits.cover_for_each
 
   shorter : suc (length_at G x) ≤ length_at G (top_vertex G)
   shorter = whole.checkable.on.last_is_top.longest x (omega (arith, block.0)) (λ same. omega (arith, same, block.0))
 
-  module _ {f : FamilyTable} (holds : HoldsFamilies G c d f) where
+  module _ (f : FamilyTable) (holds : HoldsFamilies G c d f) where
     pub members_there : {n : ℕ} → n ≡ length own.cover.covers → n ≤ f.count
     members_there counted = let few = (holds (suc (length_at G x)) shorter).0 in omega (arith, few, counted, covers_are)
 
@@ -154,7 +154,7 @@ module _
     pub members_same :
         {m n : ℕ} {h : FamilyTable} → m ≡ n → h ≡ f → n ≡ length own.cover.covers →
         SameList (level_vertices G (suc (length_at G x))) (first_members m (list_of h)) (family_at G c x d)
-    members_same {m} {n} {h} number family counted =
+    members_same {m = m} {n = n} {h = h} number family counted =
         subst (λ k. SameList (level_vertices G (suc (length_at G x))) (first_members k (list_of h)) (family_at G c x d)) (sym (number ∙ counted ∙ covers_are))
         (subst (λ (g : FamilyTable). SameList (level_vertices G (suc (length_at G x))) (first_members (family_at G c x d).count (list_of g)) (family_at G c x d)) (sym family)
         (holds (suc (length_at G x)) shorter).1)

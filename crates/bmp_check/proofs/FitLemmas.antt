@@ -123,7 +123,7 @@ spaces_version v is = elim (cases_eq v 1) [
   | inr other ↦ absurd (true≢false (sym (ap by_levels (sym is ∙ cond-false {A = Method} (eqb v 1) Spaces Levels (ne_eqb v 1 other)))))
 ]
 
-module _ {G : Graph} {v : ℕ} {c : Written} (formed : HavePartLines v (G.prime - 1) c.degree c.parts) (counted : CountPasses G c) where
+module _ (G : Graph) {v : ℕ} (c : Written) (formed : HavePartLines v (G.prime - 1) c.degree c.parts) (counted : CountPasses G c) where
   abbrev least : ℕ
   least = G.prime - 1
 
@@ -226,4 +226,4 @@ module _ {G : Graph} {v : ℕ} {c : Written} (formed : HavePartLines v (G.prime 
     }
 
 pub shape_fits : ShapeGivesFits
-shape_fits G v c formed counted passes = shapes_fit formed counted passes
+shape_fits G v c formed counted passes = shapes_fit G c formed counted passes

@@ -99,6 +99,6 @@ pivots_rise n ps h = places_rise ps 0 h.1
 -- ---- blocks
 
 pub block_formed : {v : ℕ} (most count : ℕ) (at : ℕ → ℕ) (bs : List DegreeBlock) (d : ℕ) → (length bs ≡ count) × ChainFits (IsBlock v most at) step_up 0 bs → d < count → IsBlock v most at d (get_or bs d no_block)
-block_formed {v} most count at bs d h within =
+block_formed {v = v} most count at bs d h within =
     let same : 0 + d ≡ d = omega arith in
     subst (λ (e : ℕ). IsBlock v most at e (get_or bs d no_block)) same (chain_up (IsBlock v most at) bs 0 d no_block h.1 (omega (arith, h.0)))

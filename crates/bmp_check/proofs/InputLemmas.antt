@@ -59,8 +59,8 @@ pub record IsAtBlock (G : Graph) (m : Method) (c : Written) {F : Type 0} (s : Sh
 pub at_block :
     {G : Graph} {v : ℕ} {c : Written} {t : SizeTable} {F : Type 0} {s : SheafState F} (whole : IsShaped G v c t s) (x d : ℕ) →
     HasBlock G c x d → IsAtBlock G (method_of v) c s x d
-at_block {G} {v} {c} whole x d block =
-    let fits : ShapesFit G (method_of v) c = shapes_fit whole.checkable.formed whole.count whole.shape in
+at_block {G = G} {v = v} {c = c} whole x d block =
+    let fits : ShapesFit G (method_of v) c = shapes_fit G c whole.checkable.formed whole.count whole.shape in
     record {
       over = over_field whole.checkable.on;
       counted = whole.count;
@@ -72,30 +72,30 @@ at_block {G} {v} {c} whole x d block =
 
 -- of an equal method and an equal sheaf
 pub read_at : {G : Graph} {m k : Method} {c : Written} {F : Type 0} {s t : SheafState F} {x d : ℕ} → m ≡ k → t ≡ s → IsAtBlock G m c s x d → IsAtBlock G k c t x d
-read_at {G} {m} {k} {c} {F} {s} {t} {x} {d} method sheaf at =
+read_at {G = G} {m = m} {k = k} {c = c} {F = F} {s = s} {t = t} {x = x} {d = d} method sheaf at =
     subst (λ (n : Method). IsAtBlock G n c t x d) method (subst (λ (u : SheafState F). IsAtBlock G m c u x d) (sym sheaf) at)
 
 -- rows and tuples over equal sheaves
 pub equations_read :
     {F : Type 0} {s t : SheafState F} {x y d e : ℕ} → t ≡ s → y ≡ x → e ≡ d → equation_matrix t.graph (sheaf_of t) y e ≡ equation_matrix s.graph (sheaf_of s) x d
-equations_read {F} {s} {t} {x} {y} {d} {e} sheaf vertex degree =
+equations_read {F = F} {s = s} {t = t} {x = x} {y = y} {d = d} {e = e} sheaf vertex degree =
     ap (λ (u : SheafState F). equation_matrix u.graph (sheaf_of u) y e) sheaf ∙ ap₂ (λ (a b : ℕ). equation_matrix s.graph (sheaf_of s) a b) vertex degree
 
 pub boundaries_read :
     {F : Type 0} {s t : SheafState F} {x y d e : ℕ} → t ≡ s → y ≡ x → e ≡ d → boundary_matrix t.graph (sheaf_of t) y e ≡ boundary_matrix s.graph (sheaf_of s) x d
-boundaries_read {F} {s} {t} {x} {y} {d} {e} sheaf vertex degree =
+boundaries_read {F = F} {s = s} {t = t} {x = x} {y = y} {d = d} {e = e} sheaf vertex degree =
     ap (λ (u : SheafState F). boundary_matrix u.graph (sheaf_of u) y e) sheaf ∙ ap₂ (λ (a b : ℕ). boundary_matrix s.graph (sheaf_of s) a b) vertex degree
 
 pub tuples_read :
     {F : Type 0} {s t : SheafState F} {x y d e : ℕ} {vs ws : List (List Entry)} → t ≡ s → y ≡ x → e ≡ d → ws ≡ vs →
     tuples_over t.graph (sheaf_of t) y e ws ≡ tuples_over s.graph (sheaf_of s) x d vs
-tuples_read {F} {s} {t} {x} {y} {d} {e} {vs} {ws} sheaf vertex degree vectors =
+tuples_read {F = F} {s = s} {t = t} {x = x} {y = y} {d = d} {e = e} {vs = vs} {ws = ws} sheaf vertex degree vectors =
     ap (λ (u : SheafState F). tuples_over u.graph (sheaf_of u) y e ws) sheaf
     ∙ ap₂ (λ (a b : ℕ). tuples_over s.graph (sheaf_of s) a b ws) vertex degree
     ∙ ap (λ (us : List (List Entry)). tuples_over s.graph (sheaf_of s) x d us) vectors
 
 -- the block as it is read
-module _ {g given : Given} {part : VertexPart} {x d : ℕ} (given_is : g ≡ given) (part_is : part ≡ part_of (written_in g) x) where
+module _ {g given : Given} {part : VertexPart} (x d : ℕ) (given_is : g ≡ given) (part_is : part ≡ part_of (written_in g) x) where
   part_same : part ≡ part_of (written_in given) x
   part_same = part_is ∙ ap (λ (e : Given). part_of (written_in e) x) given_is
 
@@ -107,9 +107,9 @@ module _ {g given : Given} {part : VertexPart} {x d : ℕ} (given_is : g ≡ giv
 
 -- the two numbers of a refusal are those of the comparison
 pub kernel_differs :
-    {m : Method} {c : Written} {x d : ℕ} {fault : RowFault} {r : Refusal} → r ≡ kernel_refusal m c x d fault → fault.left ≢ fault.right → r.left ≢ r.right
-kernel_differs {Spaces} refusal differs same = differs (sym (ap (λ (q : Refusal). q.left) refusal) ∙ same ∙ ap (λ (q : Refusal). q.right) refusal)
-kernel_differs {Levels} refusal differs same = differs (sym (ap (λ (q : Refusal). q.left) refusal) ∙ same ∙ ap (λ (q : Refusal). q.right) refusal)
+    (m : Method) (c : Written) (x d : ℕ) (fault : RowFault) (r : Refusal) → r ≡ kernel_refusal m c x d fault → fault.left ≢ fault.right → r.left ≢ r.right
+kernel_differs Spaces c x d fault r refusal differs same = differs (sym (ap (λ (q : Refusal). q.left) refusal) ∙ same ∙ ap (λ (q : Refusal). q.right) refusal)
+kernel_differs Levels c x d fault r refusal differs same = differs (sym (ap (λ (q : Refusal). q.left) refusal) ∙ same ∙ ap (λ (q : Refusal). q.right) refusal)
 
 -- the prime of the field as it is read
 pub field_prime : {f own : PrimeField} {s t : SheafState PrimeField} {p : ℕ} → f ≡ own → own.prime ≡ s.graph.prime → s ≡ t → t.graph.prime ≡ p → f.prime ≡ p
@@ -162,7 +162,7 @@ module _ {G : Graph} {m : Method} {c : Written} {F : Type 0} {s : SheafState F} 
         subst (λ (k : Matrix). k.cols ≤ n) (sym matrix) (omega (arith, all))
 
     pub kernel_as : {p : ℕ} → p ≡ G.prime → (P : ℕ → Matrix → KernelEvidence → Type 0) → P p M own.kernel → P G.prime (matrix_at G m c x d) (block_of c x d).kernel
-    kernel_as {p} prime P h =
+    kernel_as {p = p} prime P h =
         subst (λ q. P q (matrix_at G m c x d) (block_of c x d).kernel) prime
         (subst (λ (n : Matrix). P p n (block_of c x d).kernel) matrix (subst (λ (b : DegreeBlock). P p M b.kernel) is h))
 

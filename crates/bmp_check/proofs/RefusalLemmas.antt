@@ -9,7 +9,7 @@ use Rattle.bmp_check.specs.declared.method.Method.TheVariants.{Spaces, Levels}
 use Rattle.bmp_check.specs.declared.refusal.Refusal.{Refusal}
 use Rattle.bmp_check.specs.Verdicts.{KernelComparesAt, CoverComparesAt, IsKernelRefusal, IsCoverRefusal, IsBlockRefusal}
 
-module _ {G : Graph} {m : Method} {c : Written} {x d : ℕ} {r : Refusal} where
+module _ (G : Graph) {m : Method} (c : Written) (x d : ℕ) (r : Refusal) where
   -- by whole spaces the kernel evidence is compared first
   pub kernel_first : m ≡ Spaces → IsKernelRefusal G m c x d r → IsBlockRefusal G m c x d r
   kernel_first is = subst (λ (k : Method). IsKernelRefusal G k c x d r → IsBlockRefusal G k c x d r) (sym is) (λ h. inl h)

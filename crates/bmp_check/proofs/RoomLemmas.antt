@@ -32,7 +32,7 @@ within_more G m c n D i a b rows most few small holds k below =
     let h = holds k below in (omega (arith, h.0, few), omega (arith, h.1, small))
 
 pub same_width : {G : Graph} {m : Method} {c : Written} {a b : ℕ} → b ≡ a → HasWidth G m c a → HasWidth G m c b
-same_width {G} {m} {c} same width = subst (HasWidth G m c) (sym same) width
+same_width {G = G} {m = m} {c = c} same width = subst (HasWidth G m c) (sym same) width
 
 -- the room stays where no list grows shorter
 pub same_room :
@@ -59,7 +59,7 @@ written_room G c counted s of n room x d vertex degree =
 -- what the calls on shaped parts read is what they are about
 module _ {G H : Graph} {own g : Given} (graph : H ≡ G) (given : g ≡ own) where
   pub table_of : {t u : SizeTable} → t ≡ u → AreSizesOf G (method_in own) (written_in own) u → AreSizesOf H (method_in g) (written_in g) t
-  table_of {t} {u} table h =
+  table_of {t = t} {u = u} table h =
       subst (λ (K : Graph). AreSizesOf K (method_in g) (written_in g) t) (sym graph)
       (subst (λ (e : Given). AreSizesOf G (method_in e) (written_in e) t) (sym given)
       (subst (λ (v : SizeTable). AreSizesOf G (method_in own) (written_in own) v) (sym table) h))

@@ -68,7 +68,7 @@ base_of G v c checkable passes = record {
   small = checkable.on.few_variables;
   is_top = checkable.on.last_is_top;
   top_stalk = subst (λ n. (part_of c (n - 1)).degrees ≡ 0 ∷ []) passes.count (top_degrees c passes.top);
-  fits = shapes_fit checkable.formed passes.count passes.shape;
+  fits = shapes_fit G c checkable.formed passes.count passes.shape;
   blocks = passes.blocks;
 }
 
@@ -130,7 +130,7 @@ is_sound Levels {G} {c} base =
     })
 
 degrees_fit : {G : Graph} {m : Method} {c : Written} → ShapesFit G m c → (x : ℕ) → x < vertex_count G → DegreesFit c.degree (part_of c x).degrees
-degrees_fit {G} {m} {c} fits x within = elim (cases_eq x (vertex_count G - 1)) [
+degrees_fit {G = G} {m = m} {c = c} fits x within = elim (cases_eq x (vertex_count G - 1)) [
   | inl last ↦ subst (λ (y : ℕ). DegreesFit c.degree (part_of c y).degrees) (sym last) fits.top
   | inr other ↦ (fits.vertices x (omega arith)).degrees
 ]

@@ -50,7 +50,7 @@ counts_more G m c D numbers counts {all} joined of has =
 pub has_its_block :
     {most v : ℕ} (c : Written) → HavePartLines v most c.degree c.parts → (d : ℕ) → d ≤ c.degree → (x : ℕ) → x + 1 < length c.parts →
     (ltb x (length c.parts) && ltb d (length (part_of c x).blocks)) ≡ true
-has_its_block {most} c formed d degree x vertex =
+has_its_block {most = most} c formed d degree x vertex =
     let blocks = (part_formed most c formed x vertex).blocks.0 in
     and_from (ltb x (length c.parts)) (ltb d (length (part_of c x).blocks)) (lt-ltb x (length c.parts) (omega arith))
     (lt-ltb d (length (part_of c x).blocks) (omega (arith, blocks)))

@@ -13,32 +13,32 @@ use Rattle.bmp_check.proofs.RefusalLemmas.{cover_first, kernel_second}
 use Rattle.bmp_check.proofs.block.check_by_levels.Goals as goal
 
 pub block_of-block-requires : goal.block_of-block-requires
-block_of-block-requires c = read_there c.given.ensures c.part_of.ensures (at_block c.requires.whole c.args.x c.args.d c.requires.block).there
+block_of-block-requires c = read_there c.args.x c.args.d c.given.ensures c.part_of.ensures (at_block c.requires.whole c.args.x c.args.d c.requires.block).there
 
 pub members-members-requires : goal.members-members-requires
 members-members-requires c =
-    let is = read_block c.given.ensures c.part_of.ensures c.block_of-block.ensures in
-    members_there c.requires.whole c.requires.method c.requires.block is c.requires.family c.len.ensures
+    let is = read_block c.args.x c.args.d c.given.ensures c.part_of.ensures c.block_of-block.ensures in
+    members_there c.requires.whole c.requires.method c.args.x c.args.d c.requires.block is c.args.family.now c.requires.family c.len.ensures
 
 pub check_cover_at-requires-clause-tuples : goal.check_cover_at-requires-clause-tuples
 check_cover_at-requires-clause-tuples c =
-    let is = read_block c.given.ensures c.part_of.ensures c.block_of-block.ensures in
+    let is = read_block c.args.x c.args.d c.given.ensures c.part_of.ensures c.block_of-block.ensures in
     let members = c.members-members.ensures in
     member_tuples c.requires.whole c.requires.method c.args.d c.requires.block.1 c.args.x
-    (members_same c.requires.whole c.requires.method c.requires.block is c.requires.family members.count members.family c.len.ensures)
+    (members_same c.requires.whole c.requires.method c.args.x c.args.d c.requires.block is c.args.family.now c.requires.family members.count members.family c.len.ensures)
 
 pub check_cover_at-requires-clause-count : goal.check_cover_at-requires-clause-count
 check_cover_at-requires-clause-count c =
-    let is = read_block c.given.ensures c.part_of.ensures c.block_of-block.ensures in
+    let is = read_block c.args.x c.args.d c.given.ensures c.part_of.ensures c.block_of-block.ensures in
     let members = c.members-members.ensures in
-    let same = members_same c.requires.whole c.requires.method c.requires.block is c.requires.family members.count members.family c.len.ensures in
+    let same = members_same c.requires.whole c.requires.method c.args.x c.args.d c.requires.block is c.args.family.now c.requires.family members.count members.family c.len.ensures in
     subst (λ (m : Method). _ ≡ (tuples_at (graph_in c.args.s.now) m (cert_in c.args.s.now) c.args.x c.args.d).count) (sym c.requires.method) same.count
 
 pub check_cover_at-requires-clause-same : goal.check_cover_at-requires-clause-same
 check_cover_at-requires-clause-same c =
-    let is = read_block c.given.ensures c.part_of.ensures c.block_of-block.ensures in
+    let is = read_block c.args.x c.args.d c.given.ensures c.part_of.ensures c.block_of-block.ensures in
     let members = c.members-members.ensures in
-    let same = members_same c.requires.whole c.requires.method c.requires.block is c.requires.family members.count members.family c.len.ensures in
+    let same = members_same c.requires.whole c.requires.method c.args.x c.args.d c.requires.block is c.args.family.now c.requires.family members.count members.family c.len.ensures in
     subst (λ (m : Method). (r : CoverFault) → CoverCompares (graph_in c.args.s.now) (parts_sheaf (graph_in c.args.s.now) (cert_in c.args.s.now)) c.args.x c.args.d _ (block_of (cert_in c.args.s.now) c.args.x c.args.d).cover r
     ↔ CoverComparesAt (graph_in c.args.s.now) m (cert_in c.args.s.now) c.args.x c.args.d r) (sym c.requires.method)
     (same_comparisons c.requires.whole c.requires.method c.args.d c.requires.block.1 c.args.x same)
@@ -46,7 +46,7 @@ check_cover_at-requires-clause-same c =
 pub returns-in_err-check_cover_at-clause-first : goal.returns-in_err-check_cover_at-clause-first
 returns-in_err-check_cover_at-clause-first c =
     let p = err_from_is_err_and c.from_residual.result c.from_residual.ensures.1 in
-    rw (p.1, p.2) (cover_first c.requires.method c.in_err-check_cover_at.ensures.first)
+    rw (p.1, p.2) (cover_first (graph_in c.args.s.now) (cert_in c.args.s.now) c.args.x c.args.d c.in_err-check_cover_at.field-0.0 c.requires.method c.in_err-check_cover_at.ensures.first)
 
 pub of-boundary-requires-clause-vertex : goal.of-boundary-requires-clause-vertex
 of-boundary-requires-clause-vertex c =
@@ -81,4 +81,4 @@ returns-clause-ok c = on_ok_weaker c.check_kernel_at.result (λ h. (h, c.in_ok-c
 pub returns-clause-first : goal.returns-clause-first
 returns-clause-first c =
     MatchResult-weaker c.check_kernel_at.result c.check_kernel_at.ensures.first (λ u h. h)
-    (λ r h. kernel_second c.requires.method c.in_ok-check_cover_at.ensures.ok h)
+    (λ r h. kernel_second (graph_in c.args.s.now) (cert_in c.args.s.now) c.args.x c.args.d r c.requires.method c.in_ok-check_cover_at.ensures.ok h)

@@ -19,7 +19,7 @@ use Rattle.bmp_check.proofs.RoomLemmas.{same_room}
 use Rattle.bmp_check.proofs.block.check_by_spaces.Goals as goal
 
 pub block_of-block-requires : goal.block_of-block-requires
-block_of-block-requires c = read_there c.given.ensures c.part_of.ensures (at_block c.requires.whole c.args.x c.args.d c.requires.block).there
+block_of-block-requires c = read_there c.args.x c.args.d c.given.ensures c.part_of.ensures (at_block c.requires.whole c.args.x c.args.d c.requires.block).there
 
 pub fill-requires-clause-there : goal.fill-requires-clause-there
 fill-requires-clause-there c =
@@ -42,7 +42,7 @@ check_kernel_at-requires-clause-matrix c =
 pub returns-in_err-check_kernel_at-clause-first : goal.returns-in_err-check_kernel_at-clause-first
 returns-in_err-check_kernel_at-clause-first c =
     let p = err_from_is_err_and c.from_residual.result c.from_residual.ensures.1 in
-    rw (p.1, p.2) (kernel_first c.requires.method c.in_err-check_kernel_at.ensures.first)
+    rw (p.1, p.2) (kernel_first (graph_in c.args.s.now) (cert_in c.args.s.now) c.args.x c.args.d c.in_err-check_kernel_at.field-0.0 c.requires.method c.in_err-check_kernel_at.ensures.first)
 
 pub returns-in_err-check_kernel_at-clause-room : goal.returns-in_err-check_kernel_at-clause-room
 returns-in_err-check_kernel_at-clause-room c =
@@ -52,7 +52,7 @@ returns-in_err-check_kernel_at-clause-room c =
 pub check_cover_at-requires-clause-tuples : goal.check_cover_at-requires-clause-tuples
 check_cover_at-requires-clause-tuples c =
     let at = read_at c.requires.method c.sheaf-sheaf.ensures (at_block c.requires.whole c.args.x c.args.d c.requires.block) in
-    let is = read_block c.given.ensures c.part_of.ensures c.block_of-block.ensures in
+    let is = read_block c.args.x c.args.d c.given.ensures c.part_of.ensures c.block_of-block.ensures in
     let tuples = c.over-tuples.ensures in
     subst (λ (t : SheafState PrimeField). HasTuples t c.args.x c.args.d _) c.sheaf-sheaf.ensures
     (has_tuples at is (tuples_read tuples.sheaf tuples.vertex tuples.degree tuples.vectors))
@@ -60,7 +60,7 @@ check_cover_at-requires-clause-tuples c =
 pub check_cover_at-requires-clause-count : goal.check_cover_at-requires-clause-count
 check_cover_at-requires-clause-count c =
     let at = read_at c.requires.method c.sheaf-sheaf.ensures (at_block c.requires.whole c.args.x c.args.d c.requires.block) in
-    let is = read_block c.given.ensures c.part_of.ensures c.block_of-block.ensures in
+    let is = read_block c.args.x c.args.d c.given.ensures c.part_of.ensures c.block_of-block.ensures in
     let tuples = c.over-tuples.ensures in
     ap (λ (l : TupleList). l.count)
     (tuples_are at is (tuples_read tuples.sheaf tuples.vertex tuples.degree tuples.vectors)
@@ -71,7 +71,7 @@ check_cover_at-requires-clause-same c =
     let G = graph_in c.args.s.now in
     let cert = cert_in c.args.s.now in
     let at = read_at c.requires.method c.sheaf-sheaf.ensures (at_block c.requires.whole c.args.x c.args.d c.requires.block) in
-    let is = read_block c.given.ensures c.part_of.ensures c.block_of-block.ensures in
+    let is = read_block c.args.x c.args.d c.given.ensures c.part_of.ensures c.block_of-block.ensures in
     let tuples = c.over-tuples.ensures in
     let same =
     tuples_are at is (tuples_read tuples.sheaf tuples.vertex tuples.degree tuples.vectors)
@@ -86,7 +86,7 @@ returns-clause-ok c = on_ok_weaker c.check_cover_at.result (λ h. (c.in_ok-check
 pub returns-clause-first : goal.returns-clause-first
 returns-clause-first c =
     MatchResult-weaker c.check_cover_at.result c.check_cover_at.ensures.first (λ u h. h)
-    (λ r h. cover_second c.requires.method c.in_ok-check_kernel_at.ensures.ok h)
+    (λ r h. cover_second (graph_in c.args.s.now) (cert_in c.args.s.now) c.args.x c.args.d r c.requires.method c.in_ok-check_kernel_at.ensures.ok h)
 
 pub returns-clause-room : goal.returns-clause-room
 returns-clause-room c =

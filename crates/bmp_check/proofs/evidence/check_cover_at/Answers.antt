@@ -7,7 +7,7 @@ use Rattle.bmp_check.proofs.InputLemmas.{at_block, read_there, read_block, has_s
 use Rattle.bmp_check.proofs.evidence.check_cover_at.Goals as goal
 
 pub block_of-block-requires : goal.block_of-block-requires
-block_of-block-requires g c = read_there c.given.ensures c.part_of.ensures (at_block c.requires.whole c.args.x c.args.d c.requires.block).there
+block_of-block-requires g c = read_there c.args.x c.args.d c.given.ensures c.part_of.ensures (at_block c.requires.whole c.args.x c.args.d c.requires.block).there
 
 pub check_cover-requires-clause-stalks : goal.check_cover-requires-clause-stalks
 check_cover-requires-clause-stalks g c =
@@ -20,7 +20,7 @@ check_cover-requires-clause-tuples g c =
 pub check_cover-requires-clause-fits : goal.check_cover-requires-clause-fits
 check_cover-requires-clause-fits g c =
     let at = at_block c.requires.whole c.args.x c.args.d c.requires.block in
-    let is = read_block c.given.ensures c.part_of.ensures c.block_of-block.ensures in
+    let is = read_block c.args.x c.args.d c.given.ensures c.part_of.ensures c.block_of-block.ensures in
     subst (λ (t : SheafState PrimeField). CoverFits t c.args.x c.args.d (g.T.Sections.list c.args.tuples.now).count c.block_of-block.result.now.cover) (sym c.sheaf.ensures)
     (cover_fits at is c.requires.count)
 
@@ -32,13 +32,13 @@ check_cover-requires-clause-room g c =
 pub returns-in-Ok-clause-ok : goal.returns-in-Ok-clause-ok
 returns-in-Ok-clause-ok g c =
     let at = at_block c.requires.whole c.args.x c.args.d c.requires.block in
-    let is = read_block c.given.ensures c.part_of.ensures c.block_of-block.ensures in
+    let is = read_block c.args.x c.args.d c.given.ensures c.part_of.ensures c.block_of-block.ensures in
     cover_passes at is c.sheaf.ensures c.requires.same c.in-Ok.ensures.ok
 
 pub returns-in-Err-clause-first : goal.returns-in-Err-clause-first
 returns-in-Err-clause-first g c =
     let at = at_block c.requires.whole c.args.x c.args.d c.requires.block in
-    let is = read_block c.given.ensures c.part_of.ensures c.block_of-block.ensures in
+    let is = read_block c.args.x c.args.d c.given.ensures c.part_of.ensures c.block_of-block.ensures in
     (c.in-Err.fault, cover_first at is c.sheaf.ensures c.requires.same c.in-Err.fault c.in-Err.ensures.fault, c.cover_refusal.ensures)
 
 pub returns-in-Err-clause-differ : goal.returns-in-Err-clause-differ

@@ -20,7 +20,7 @@ push_part-requires-clause-values c =
     let checkable : IsCheckable s.graph c.args.c.now.version cert = subst (λ (G : Graph). IsCheckable G c.args.c.now.version cert) (sym so_far.graph) c.requires.checkable in
     let counted : CountPasses s.graph cert = subst (λ (G : Graph). CountPasses G cert) (sym so_far.graph) c.requires.count in
     let fits : ShapesFit s.graph (method_in c.args.c.now) cert =
-    subst (λ (G : Graph). ShapesFit G (method_in c.args.c.now) cert) (sym so_far.graph) (shapes_fit c.requires.checkable.formed c.requires.count c.requires.shape) in
+    subst (λ (G : Graph). ShapesFit G (method_in c.args.c.now) cert) (sym so_far.graph) (shapes_fit c.args.graph.now cert c.requires.checkable.formed c.requires.count c.requires.shape) in
     let more : c.parts.i < length cert.parts = omega arith in
     let read : get_or cert.parts c.parts.i no_part ≡ c.at.result.now = get_or_from_slice_get cert.parts c.parts.i c.at.result.now no_part c.at.ensures in
     own_below s cert checkable counted fits so_far.degree c.parts.i so_far.stalks more c.at.result.now read
@@ -33,7 +33,7 @@ push_part-requires-clause-stalk c =
     let checkable : IsCheckable s.graph c.args.c.now.version cert = subst (λ (G : Graph). IsCheckable G c.args.c.now.version cert) (sym so_far.graph) c.requires.checkable in
     let counted : CountPasses s.graph cert = subst (λ (G : Graph). CountPasses G cert) (sym so_far.graph) c.requires.count in
     let fits : ShapesFit s.graph (method_in c.args.c.now) cert =
-    subst (λ (G : Graph). ShapesFit G (method_in c.args.c.now) cert) (sym so_far.graph) (shapes_fit c.requires.checkable.formed c.requires.count c.requires.shape) in
+    subst (λ (G : Graph). ShapesFit G (method_in c.args.c.now) cert) (sym so_far.graph) (shapes_fit c.args.graph.now cert c.requires.checkable.formed c.requires.count c.requires.shape) in
     let more : c.parts.i < length cert.parts = omega arith in
     let read : get_or cert.parts c.parts.i no_part ≡ c.at.result.now = get_or_from_slice_get cert.parts c.parts.i c.at.result.now no_part c.at.ensures in
     own_is_stalk s cert checkable counted fits so_far.degree c.parts.i so_far.stalks more c.at.result.now read
@@ -46,7 +46,7 @@ parts-preserved c =
     let checkable : IsCheckable s.graph c.args.c.now.version cert = subst (λ (G : Graph). IsCheckable G c.args.c.now.version cert) (sym so_far.graph) c.requires.checkable in
     let counted : CountPasses s.graph cert = subst (λ (G : Graph). CountPasses G cert) (sym so_far.graph) c.requires.count in
     let fits : ShapesFit s.graph (method_in c.args.c.now) cert =
-    subst (λ (G : Graph). ShapesFit G (method_in c.args.c.now) cert) (sym so_far.graph) (shapes_fit c.requires.checkable.formed c.requires.count c.requires.shape) in
+    subst (λ (G : Graph). ShapesFit G (method_in c.args.c.now) cert) (sym so_far.graph) (shapes_fit c.args.graph.now cert c.requires.checkable.formed c.requires.count c.requires.shape) in
     let more : c.parts.i < length cert.parts = omega arith in
     let read : get_or cert.parts c.parts.i no_part ≡ c.at.result.now = get_or_from_slice_get cert.parts c.parts.i c.at.result.now no_part c.at.ensures in
     let pushed = c.in_ok-push_part.ensures in
