@@ -1,10 +1,10 @@
 -- The values of families are below the prime where those of the blocks are; so what has their values are tuples to compare with.
-use Rattle.std.proofs.Common.{◌≡◌, ℕ, zero, suc, ◌+◌, ◌-◌, ◌<◌, ◌≤◌, Bool, true, false, refl, List, [], length, get_or}
-use Rattle.std.proofs.Common.{cond, eqb, leb, ap, subst, sym, ◌∙◌, inl, inr, arith}
-use Rattle.std.specs.Prelude.{All, IsTrue}
-use Rattle.std.proofs.lemmas.Bool.{cases_eq, cases_lt, leb-false}
+use Rattle.std.proofs.Common.{◌≡◌, ℕ, zero, suc, ◌-◌, ◌<◌, ◌≤◌, Bool, true, false, refl, List, [], length, get_or}
+use Rattle.std.proofs.Common.{cond, eqb, leb, subst, sym, ◌∙◌, inl, inr, arith}
+use Rattle.std.specs.Prelude.{All}
+use Rattle.std.proofs.lemmas.Bool.{cases_eq, cases_lt}
 use Rattle.bmp_math.specs.Vectors.{unit}
-use Rattle.bmp_graph.specs.Graph.{Graph, IsGraph, IsAbove, vertex_count, length_at}
+use Rattle.bmp_graph.specs.Graph.{Graph, IsGraph, vertex_count, length_at}
 use Rattle.bmp_graph.specs.Laws.{IsHigher}
 use Rattle.bmp_graph.proofs.GraphLemmas.{IsAbove-higher}
 use Rattle.bmp_linear.specs.declared.vector.Entry.{Entry}
@@ -14,7 +14,6 @@ use Rattle.bmp_linear.specs.Evidence.{vector_at}
 use Rattle.bmp_linear.proofs.SparseLemmas.{number_at-below}
 use Rattle.bmp_sheaf.specs.Sheaves.{SheafData}
 use Rattle.bmp_sheaf.specs.States.{SheafState, sheaf_of}
-use Rattle.bmp_sections.specs.Numbers.{is_above}
 use Rattle.bmp_sections.specs.TupleLists.{TupleList}
 use Rattle.bmp_sections.proofs.AboveLemmas.{above_from_test}
 use Rattle.bmp_cover.specs.CoverInputs.{HasTuples}
@@ -22,7 +21,7 @@ use Rattle.bmp_levels.specs.Levels.{level_vertices}
 use Rattle.bmp_levels.specs.Lists.{SameList}
 use Rattle.bmp_levels.specs.Families.{new_start, extended_value, family_down, family}
 use Rattle.bmp_levels.specs.Statements.{BlocksAreBelow, FamiliesAreBelow}
-use Rattle.bmp_levels.proofs.Members.{vector_past, at_level, off_level}
+use Rattle.bmp_levels.proofs.MemberValues.{vector_past, at_level, off_level}
 use Rattle.bmp_levels.proofs.Families.{family_size}
 
 vector_below : (vs : List (List Entry)) (p i c : ℕ) → 0 < p → All (λ v. ValuesBelow v p) vs → vector_at vs i c < p
@@ -43,7 +42,7 @@ unit_below p i j two = one_or_none (eqb i j)
     one_or_none true = omega arith
     one_or_none false = omega arith
 
-module _ {G : Graph} {d top : ℕ} {block : ℕ → DegreeBlock} (two : 2 ≤ G.prime)
+module _ {G : Graph} {top : ℕ} {block : ℕ → DegreeBlock} (two : 2 ≤ G.prime)
     (below : BlocksAreBelow G top block) where
   -- an extension
   extended_below :
@@ -52,7 +51,6 @@ module _ {G : Graph} {d top : ℕ} {block : ℕ → DegreeBlock} (two : 2 ≤ G.
       (j y c : ℕ) → y < vertex_count G → extended_value G k block list j y c < G.prime
   extended_below k list short old j y c inside = elim (cases_eq (length_at G y) k) [
     | inl here ↦
-        let own = below y inside (omega (arith, here, short)) in
         subst (λ (v : ℕ → ℕ). v c < G.prime) (sym (at_level G k block list j y here))
         (either_below (leb list.count j) (cond (leb (new_start G k block y) (j - list.count))
         (vector_at (block y).kernel.basis (j - list.count - new_start G k block y)) (λ i. 0))
@@ -60,16 +58,16 @@ module _ {G : Graph} {d top : ℕ} {block : ℕ → DegreeBlock} (two : 2 ≤ G.
         (λ new. either_below (leb (new_start G k block y) (j - list.count))
         (vector_at (block y).kernel.basis (j - list.count - new_start G k block y)) (λ i. 0) G.prime c
         (λ from. vector_below (block y).kernel.basis G.prime (j - list.count - new_start G k block y) c
-        (omega (arith, two)) own.0)
+        (omega (arith, two)) (below.basis y inside (omega (arith, here, short))))
         (λ before. omega (arith, two)))
-        (λ is_old. vector_below (block y).cover.covers G.prime j c (omega (arith, two)) own.1))
+        (λ is_old. vector_below (block y).cover.covers G.prime j c (omega (arith, two)) (below.covers y inside (omega (arith, here, short)))))
     | inr other ↦
         subst (λ (v : ℕ → ℕ). v c < G.prime) (sym (off_level G k block list j y other))
         (either_below (leb list.count j) (λ i. 0) (list.value j y) G.prime c (λ new. omega (arith, two))
         (λ is_old. old j y c inside))
   ]
 
-  module _ (F : SheafData) where
+  module _ (F : SheafData) (d : ℕ) where
     down_below :
         (n : ℕ) → n ≤ length_at G top → (j y c : ℕ) → y < vertex_count G →
         (family_down G F d top block n).value j y c < G.prime
@@ -80,15 +78,15 @@ module _ {G : Graph} {d top : ℕ} {block : ℕ → DegreeBlock} (two : 2 ≤ G.
         (down_below n (omega arith)) j y c inside
 
 pub families_are_below : FamiliesAreBelow
-families_are_below G F d top block two below k j y c inside = down_below two below F (length_at G top - k) (omega arith) j y c inside
+families_are_below G F d top block two below k j y c inside = down_below two below F d (length_at G top - k) (omega arith) j y c inside
 
 -- what has the values of the family over the longer vertices
 pub has_tuples :
-    {A : Type 0} {s : SheafState A} {x d top : ℕ} {block : ℕ → DegreeBlock} {list : TupleList} → IsGraph s.graph →
+    {A : Type 0} {s : SheafState A} (x : ℕ) {d top : ℕ} {block : ℕ → DegreeBlock} {list : TupleList} → IsGraph s.graph →
     2 ≤ s.graph.prime → BlocksAreBelow s.graph top block →
     SameList (level_vertices s.graph (suc (length_at s.graph x))) list
     (family s.graph (sheaf_of s) d top block (suc (length_at s.graph x))) → HasTuples s x d list
-has_tuples {s = s} {x = x} {d = d} {top = top} {block = block} {list = list} is two below same y test =
+has_tuples {s = s} x {d = d} {top = top} {block = block} {list = list} is two below same y test =
     let high : IsHigher s.graph y x = IsAbove-higher s.graph is y x (above_from_test s.graph x y test) in
     let k = suc (length_at s.graph x) in
     let inside : level_vertices s.graph (suc (length_at s.graph x)) y = (high.is_vertex, omega (arith, high.longer)) in

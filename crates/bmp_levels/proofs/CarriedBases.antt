@@ -1,8 +1,8 @@
 -- Lists with the same values over a level are bases of the sections there together.
-use Rattle.std.proofs.Common.{◌≡◌, ℕ, ◌<◌, ◌≤◌, sym, ◌∙◌, arith}
-use Rattle.bmp_graph.specs.Graph.{Graph, vertex_count, lower, upper, label}
+use Rattle.std.proofs.Common.{ℕ, ◌≤◌, sym, arith}
+use Rattle.bmp_graph.specs.Graph.{Graph, lower, upper, label}
 use Rattle.bmp_sheaf.specs.Fields.{IsOverField}
-use Rattle.bmp_sheaf.specs.Elements.{SameElement, zero_element}
+use Rattle.bmp_sheaf.specs.Elements.{zero_element}
 use Rattle.bmp_sheaf.specs.Sheaves.{SheafData, Tuple, lift_of}
 use Rattle.bmp_sheaf.proofs.ElementLaws.{same_chained, same_congruent, congruent_chained}
 use Rattle.bmp_sheaf.proofs.LiftLaws.{lifts_same}
@@ -16,9 +16,9 @@ use Rattle.bmp_levels.proofs.Comparing.{SameTuples, tuples_turned, same_list_tup
 
 -- what has the values of a section is one
 pub section_carries :
-    {G : Graph} {F : SheafData} (U : ℕ → Type 0) (d : ℕ) (s t : Tuple) → IsOverField G → G.rank ≤ 6 →
+    (G : Graph) (F : SheafData) (U : ℕ → Type 0) (d : ℕ) (s t : Tuple) → IsOverField G → G.rank ≤ 6 →
     SameOver G F U d s t → IsSection G F U d t → IsSection G F U d s
-section_carries {G = G} {F = F} U d s t over wide same given e below low up =
+section_carries G F U d s t over wide same given e below low up =
     let ends = over.is_graph.ends e below in
     let high = upper G e in
     congruent_chained G.prime G.rank (F.degrees high) (label G e) d (lift_of G F e d (s (lower G e))) (t high) (s high)
@@ -34,7 +34,7 @@ module _ {G : Graph} {F : SheafData} {k d : ℕ} {a b : TupleList} (over : IsOve
       AreSectionsOver G F (level G k) d (tuples_in G F d b) b.count
   sections_carry sections = record {
     each = λ j is_member.
-        section_carries (level G k) d (tuples_in G F d b j) (tuples_in G F d a j) over wide
+        section_carries G F (level G k) d (tuples_in G F d b j) (tuples_in G F d a j) over wide
         (λ y below inside g n has m is. sym (same.value j y is_member (below, inside) g n has m is))
         (sections.each j (omega (arith, is_member, same.count)));
   }

@@ -1,12 +1,11 @@
 -- Columns of rows of bytes, and what writing them changes.
-use Rattle.std.proofs.Common.{◌≡◌, ◌≢◌, ℕ, suc, ◌+◌, ◌*◌, ◌<◌, ◌≤◌, ◌⊎◌, List, [], length, get_or, set, take, cond, eqb}
+use Rattle.std.proofs.Common.{◌≡◌, ℕ, suc, ◌+◌, ◌*◌, ◌<◌, ◌≤◌, List, [], length, get_or, set, take, eqb}
 use Rattle.std.proofs.Common.{refl, sym, ap, ◌∙◌, inl, inr, arith, eq-eqb, ne_eqb}
 use Rattle.std.proofs.Common.{length-set, get_or-set_same, get_or-set_other}
 use Rattle.std.proofs.Math.Nat.{mul-le-mul_right}
 use Rattle.std.proofs.lemmas.Bool.{cases_eq, cases_lt, cond-true, cond-false}
 use Rattle.bmp_linear.specs.declared.vector.Entry.{Entry}
-use Rattle.bmp_linear.specs.SparseVectors.{IsRising, FitsBelow, number_at}
-use Rattle.bmp_linear.specs.Evidence.{vector_at}
+use Rattle.bmp_linear.specs.SparseVectors.{IsRising, number_at}
 use Rattle.bmp_linear.proofs.SparseLemmas.{number_at_more}
 use Rattle.bmp_levels.specs.Runs.{IsColumnWritten, AreColumnsWritten}
 

@@ -1,6 +1,6 @@
 -- Lists with the same values make the same comparisons, and are bases together.
 use Rattle.std.proofs.Common.{◌≡◌, ℕ, ◌%◌, ◌<◌, ◌≤◌, refl, sym, ap, subst, ◌∙◌, inl, inr, arith}
-use Rattle.bmp_graph.specs.Graph.{Graph, IsAbove, vertex_count, upper}
+use Rattle.bmp_graph.specs.Graph.{Graph, IsAbove, upper}
 use Rattle.bmp_graph.specs.Graph.IsAbove.{edge}
 use Rattle.bmp_linear.specs.declared.evidence.CoverEvidence.{CoverEvidence}
 use Rattle.bmp_linear.specs.Evidence.{vector_at}

@@ -1,6 +1,6 @@
 -- How many members there are over the longer vertices, by vertex from the greatest down.
 use Rattle.std.proofs.Common.{◌≡◌, ◌≢◌, ℕ, suc, ◌+◌, ◌-◌, ◌*◌, ◌<◌, ◌≤◌, List, length, get_or, set}
-use Rattle.std.proofs.Common.{refl, sym, ap, ◌∙◌, inl, inr, arith, length-set, get_or-set_same, get_or-set_other}
+use Rattle.std.proofs.Common.{sym, ap, ◌∙◌, inl, inr, arith, length-set, get_or-set_same, get_or-set_other}
 use Rattle.std.proofs.lemmas.Bool.{cases_eq, cases_lt}
 use Rattle.bmp_math.specs.Sums.{sum_below}
 use Rattle.bmp_math.proofs.SumLemmas.{sum_below_same, sum_below_joined, sum_below_more, sum_below-zero}
@@ -8,19 +8,19 @@ use Rattle.bmp_poly.specs.Exponents.{count}
 use Rattle.bmp_graph.specs.Graph.{Graph, IsGraph, vertex_count, length_at}
 use Rattle.bmp_linear.specs.declared.blocks.DegreeBlock.{DegreeBlock}
 use Rattle.bmp_levels.specs.Families.{falling, shorter_at, member_count}
-use Rattle.bmp_levels.proofs.Members.{sum_none}
+use Rattle.bmp_levels.proofs.MemberValues.{sum_none}
 use Rattle.bmp_levels.proofs.Families.{sum_turned, held, held_level, held_short, held_sum}
 
 -- the first b vertices from the greatest down are counted
 pub record AreCounted (G : Graph) (d : ℕ) (block : ℕ → DegreeBlock) (b sum : ℕ) (counts : List ℕ) : Type 0 where
   pub sized : length counts ≡ vertex_count G
-  pub sum : sum ≡ count G.rank d + sum_below (λ z. shorter_at G (vertex_count G - 1) block (falling G z)) b
+  pub total : sum ≡ count G.rank d + sum_below (λ z. shorter_at G (vertex_count G - 1) block (falling G z)) b
   pub small : sum ≤ 462 + b * 4294967296
-  pub counts :
+  pub each :
       (x : ℕ) → x < vertex_count G → vertex_count G ≤ x + b →
       get_or counts x 0 ≡ member_count G d (vertex_count G - 1) block (suc (length_at G x))
 
-module _ {G : Graph} {d : ℕ} {block : ℕ → DegreeBlock} where
+module _ (G : Graph) (d : ℕ) (block : ℕ → DegreeBlock) where
   abbrev top : ℕ
   top = vertex_count G - 1
 
@@ -52,12 +52,12 @@ module _ {G : Graph} {d : ℕ} {block : ℕ → DegreeBlock} where
       AreCounted G d block 0 sum counts
   counted_first sum counts sized is small = record {
     sized = sized;
-    sum = omega (arith, is, sum_below-zero at_falling);
+    total = omega (arith, is, sum_below-zero at_falling);
     small = omega (arith, small);
-    counts = λ x below there. absurd (omega (arith, below, there));
+    each = λ x below there. absurd (omega (arith, below, there));
   }
 
-  module _ {b x sum : ℕ} {counts : List ℕ} (is : IsGraph G) (h : AreCounted G d block b sum counts)
+  module _ (x : ℕ) {b sum : ℕ} {counts : List ℕ} (is : IsGraph G) (h : AreCounted G d block b sum counts)
       (at : x + suc b ≡ vertex_count G) where
     -- a vertex as long as the next greater one, or one that is shorter
     pub count_is :
@@ -67,7 +67,7 @@ module _ {G : Graph} {d : ℕ} {block : ℕ → DegreeBlock} where
     count_is number same shorter = elim (cases_lt (x + 1) (vertex_count G)) [
       | inl more ↦ elim (cases_eq (length_at G x) (length_at G (x + 1))) [
         | inl equal ↦
-            same more equal ∙ h.counts (x + 1) more (omega (arith, at))
+            same more equal ∙ h.each (x + 1) more (omega (arith, at))
             ∙ ap (λ n. member_count G d (vertex_count G - 1) block (suc n)) (sym equal)
         | inr less ↦ own number (shorter (λ m. less)) (λ m. less)
       ]
@@ -78,7 +78,7 @@ module _ {G : Graph} {d : ℕ} {block : ℕ → DegreeBlock} where
             (number : ℕ) → number ≡ sum → (x + 1 < vertex_count G → length_at G x ≢ length_at G (x + 1)) →
             number ≡ member_count G d (vertex_count G - 1) block (suc (length_at G x))
         own number is_sum less =
-            is_sum ∙ h.sum
+            is_sum ∙ h.total
             ∙ level_sum (suc (length_at G x)) b (omega (arith, at))
             (λ y below there.
             let more : x + 1 < vertex_count G = omega (arith, below, there, at) in
@@ -96,23 +96,23 @@ module _ {G : Graph} {d : ℕ} {block : ℕ → DegreeBlock} where
         AreCounted G d block (b + 1) next (set counts x number)
     counted_more number more next number_is more_is few next_is = record {
       sized = length-set counts x number ∙ h.sized;
-      sum =
+      total =
           let turned : falling G b ≡ x = omega (arith, at) in
           omega (
             arith,
             next_is,
             more_is,
-            h.sum,
+            h.total,
             sum_below_more at_falling b,
             ap (shorter_at G (vertex_count G - 1) block) turned,
           );
       small = omega (arith, next_is, few, h.small);
-      counts = λ y below there. elim (cases_eq y x) [
+      each = λ y below there. elim (cases_eq y x) [
         | inl same ↦
             ap (λ n. get_or (set counts x number) n 0) same
             ∙ get_or-set_same counts x number 0 (omega (arith, at, h.sized)) ∙ number_is
             ∙ ap (λ n. member_count G d (vertex_count G - 1) block (suc (length_at G n))) (sym same)
         | inr other ↦
-            get_or-set_other counts x y number 0 other ∙ h.counts y below (omega (arith, there, at, other))
+            get_or-set_other counts x y number 0 other ∙ h.each y below (omega (arith, there, at, other))
       ];
     }

@@ -1,10 +1,9 @@
 -- The members of an extension are independent.
-use Rattle.std.proofs.Common.{◌≡◌, ◌≢◌, ℕ, suc, ◌+◌, ◌-◌, ◌*◌, ◌%◌, ◌<◌, length, eqb}
-use Rattle.std.proofs.Common.{refl, sym, ap, ◌∙◌, inl, inr, arith, eq-eqb, ne_eqb}
-use Rattle.std.proofs.lemmas.Bool.{cases_eq, cases_lt, cond-true, cond-false}
+use Rattle.std.proofs.Common.{◌≡◌, ◌≢◌, ℕ, suc, ◌+◌, ◌-◌, ◌*◌, ◌%◌, ◌<◌, length}
+use Rattle.std.proofs.Common.{refl, sym, ap, ◌∙◌, inl, inr, arith}
+use Rattle.std.proofs.lemmas.Bool.{cases_eq, cases_lt}
 use Rattle.bmp_math.specs.Congruences.{SameMod}
 use Rattle.bmp_math.specs.Sums.{sum_below}
-use Rattle.bmp_math.specs.Vectors.{unit}
 use Rattle.bmp_math.proofs.BlockLemmas.{InBlock, block_of}
 use Rattle.bmp_math.proofs.CongruenceLemmas.{same_add, zero_mul, mul_zero, mul_one}
 use Rattle.bmp_math.proofs.SumLemmas.{sum_zero_mod, sum_only_mod}
@@ -23,9 +22,9 @@ use Rattle.bmp_levels.specs.Families.{falling, new_at, new_start, new_count}
 use Rattle.bmp_levels.specs.Bases.{SameOver, AreIndependent}
 use Rattle.bmp_levels.specs.Evidence.{ExtendsBy}
 use Rattle.bmp_levels.specs.Statements.{ExtensionKeepsIndependence}
-use Rattle.bmp_levels.proofs.Members.{falling_twice, new_at_is, new_at_none, old_members, members, all_count}
-use Rattle.bmp_levels.proofs.Members.{coordinate}
-use Rattle.bmp_levels.proofs.Members.{combined_away, combined_here}
+use Rattle.bmp_levels.proofs.MemberValues.{falling_twice, new_at_is, new_at_none, old_members, members, all_count}
+use Rattle.bmp_levels.proofs.MemberValues.{coordinate}
+use Rattle.bmp_levels.proofs.MemberValues.{combined_away, combined_here}
 use Rattle.bmp_levels.proofs.KernelVectors.{free_place, free_within, basis_unit}
 
 module _ {G : Graph} {F : SheafData} {k d : ℕ} {block : ℕ → DegreeBlock} {list : TupleList}

@@ -1,6 +1,6 @@
 -- Families level by level: the top, the next one, how many members there are, and that the first members are those of
 -- the higher levels.
-use Rattle.std.proofs.Common.{◌≡◌, ◌≢◌, ℕ, zero, suc, ◌+◌, ◌-◌, ◌<◌, ◌≤◌, length, cond, leb, ltb}
+use Rattle.std.proofs.Common.{◌≡◌, ◌≢◌, ℕ, zero, suc, ◌+◌, ◌-◌, ◌<◌, ◌≤◌, true, length, cond, leb, ltb}
 use Rattle.std.proofs.Common.{refl, sym, ap, subst, ◌∙◌, inl, inr, arith}
 use Rattle.std.proofs.lemmas.Bool.{cases_eq, cases_lt, cond-true, cond-false, le-leb, lt-leb, lt-ltb, le-ltb}
 use Rattle.bmp_math.specs.Sums.{sum_below}
@@ -16,11 +16,11 @@ use Rattle.bmp_levels.specs.Lists.{first_members, SameList}
 use Rattle.bmp_levels.specs.Families.{new_at, new_count, extended, stalk_size}
 use Rattle.bmp_levels.specs.Families.{top_family, family_down, family, shorter_at, member_count}
 use Rattle.bmp_levels.specs.Statements.{FirstMembersAreFamily, FamiliesAreCounted}
-use Rattle.bmp_levels.proofs.Members.{old_away, new_at_is, new_at_none}
+use Rattle.bmp_levels.proofs.MemberValues.{old_away, new_at_is, new_at_none}
 
 -- a sum from the last term down
 pub sum_turned : (f : ℕ → ℕ) (n : ℕ) → sum_below (λ b. f (n - 1 - b)) n ≡ sum_below f n
-sum_turned f zero = refl
+sum_turned f zero = sum_below-zero (λ b. f (0 - 1 - b)) ∙ sym (sum_below-zero f)
 sum_turned f (suc n) =
     let first : sum_below (λ b. f (suc n - 1 - b)) (suc n) ≡ sum_below (λ b. f (suc n - 1 - b)) (1 + n) =
     ap (sum_below (λ b. f (suc n - 1 - b))) (omega arith) in

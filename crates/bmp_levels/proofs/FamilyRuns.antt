@@ -1,10 +1,10 @@
 -- The runs of a family, and one more of them.
-use Rattle.std.proofs.Common.{◌≡◌, ◌≢◌, ℕ, ◌+◌, ◌-◌, ◌<◌, ◌≤◌, ◌⊎◌, true, List, [], ◌∷◌, ◌++◌, length, get_or, leb, ltb, ◌&&◌}
-use Rattle.std.proofs.Common.{refl, sym, ap, subst, ◌∙◌, inl, inr, arith, leb-true, ltb-true, length-append}
-use Rattle.std.proofs.lemmas.Bool.{cases_lt, cases_eq, and_from, and_parts, le-leb, lt-ltb}
+use Rattle.std.proofs.Common.{◌≡◌, ℕ, ◌+◌, ◌-◌, ◌<◌, ◌≤◌, true, List, [], ◌∷◌, length, get_or, leb, ltb}
+use Rattle.std.proofs.Common.{refl, ap, ◌∙◌, arith, leb-true, ltb-true, length-append}
+use Rattle.std.proofs.lemmas.Bool.{and_from, and_parts, le-leb, lt-ltb}
 use Rattle.std.proofs.lemmas.List.{get_or_push, get_or_append_left}
 use Rattle.bmp_linear.specs.declared.vector.Entry.{Entry}
-use Rattle.bmp_levels.specs.Runs.{RunTable, no_run, run_value, FamilyTable, IsFamilyTable, run_at, list_of, IsRunAdded}
+use Rattle.bmp_levels.specs.Runs.{no_run, run_value, FamilyTable, IsFamilyTable, run_at, list_of, IsRunAdded}
 use Rattle.bmp_levels.proofs.RunLemmas.{run_value_past}
 
 module _ (f : FamilyTable) (y : ℕ) where

@@ -1,21 +1,20 @@
 -- An extension in memory, vertex by vertex from the greatest down.
-use Rattle.std.proofs.Common.{◌≡◌, ◌≢◌, ℕ, suc, ◌+◌, ◌-◌, ◌<◌, ◌≤◌, List, length, cond, leb, Bool}
+use Rattle.std.proofs.Common.{◌≡◌, ◌≢◌, ℕ, suc, ◌+◌, ◌-◌, ◌<◌, ◌≤◌, length, leb}
 use Rattle.std.proofs.Common.{refl, sym, ap, subst, ◌∙◌, inl, inr, arith}
-use Rattle.std.proofs.lemmas.Bool.{cases_eq, cases_lt, cond-true, cond-false, le-leb, lt-leb}
+use Rattle.std.proofs.lemmas.Bool.{cases_eq, cases_lt, cond-true, le-leb}
 use Rattle.bmp_math.specs.Sums.{sum_below}
 use Rattle.bmp_math.proofs.SumLemmas.{sum_below_more, sum_below_joined}
-use Rattle.bmp_graph.specs.Graph.{Graph, vertex_count, length_at}
+use Rattle.bmp_graph.specs.Graph.{vertex_count, length_at}
 use Rattle.bmp_linear.specs.declared.blocks.DegreeBlock.{DegreeBlock}
 use Rattle.bmp_linear.specs.Evidence.{vector_at}
 use Rattle.bmp_sheaf.specs.States.{SheafState, sheaf_of}
 use Rattle.bmp_levels.specs.Levels.{level_vertices}
-use Rattle.bmp_levels.specs.Lists.{SameList}
 use Rattle.bmp_levels.specs.Families.{falling, new_at, new_start, new_count, new_value, extended_value, stalk_size}
 use Rattle.bmp_levels.specs.Runs.{RunTable, run_value, FamilyTable, IsFamilyTable, run_at, list_of}
 use Rattle.bmp_levels.specs.Runs.{joined_value, IsRunAdded}
-use Rattle.bmp_levels.specs.Extensions.{HoldsLevel, BlockFits, IsExtension}
-use Rattle.bmp_levels.proofs.Members.{sum_none, vector_past, new_at_is, new_at_none, new_before, new_from}
-use Rattle.bmp_levels.proofs.Members.{at_level, off_level, old_here, old_away}
+use Rattle.bmp_levels.specs.Extensions.{IsFirst, HoldsLevel, BlockFits, IsExtension}
+use Rattle.bmp_levels.proofs.MemberValues.{sum_none, vector_past, new_at_is, new_at_none, new_before, new_from}
+use Rattle.bmp_levels.proofs.MemberValues.{at_level, off_level, old_here, old_away}
 use Rattle.bmp_levels.proofs.RunLemmas.{joined_covers, joined_basis}
 use Rattle.bmp_levels.proofs.FamilyRuns.{has_from, later_member, one_run_more, run_stays, run_next}
 
@@ -156,20 +155,30 @@ module _ {A : Type 0} {s : SheafState A} {k d : ℕ} {block : ℕ → DegreeBloc
         ];
       }
 
+-- the same of what was added from a block that equals that of y
+pub filled_next :
+    {A : Type 0} {s : SheafState A} {k d : ℕ} {block : ℕ → DegreeBlock} {f old new : FamilyTable} {b : ℕ} (y size : ℕ)
+    (own : DegreeBlock) → IsFilled s k d block f b old → y + suc b ≡ vertex_count s.graph → length_at s.graph y ≡ k →
+    BlockFits s d f.count y (block y) → size ≡ stalk_size s.graph (sheaf_of s) d y → own ≡ block y →
+    IsRunAdded size own.cover.covers own.kernel.basis old new → IsFilled s k d block f (b + 1) new
+filled_next {s = s} {d = d} {block = block} {old = old} {new = new} y size own h at here fits size_is own_is added =
+    filled_more h at here fits
+    (subst (λ n. IsRunAdded n (block y).cover.covers (block y).kernel.basis old new) size_is
+    (subst (λ (g : DegreeBlock). IsRunAdded size g.cover.covers g.kernel.basis old new) own_is added))
+
 -- ---- the whole level
 
 module _ {A : Type 0} {s : SheafState A} {k d first : ℕ} {f : FamilyTable} (longer_held : HoldsLevel s (suc k) d f)
-    (within : first ≤ vertex_count s.graph) (shorter : (y : ℕ) → y < first → length_at s.graph y < k)
-    (longer : (y : ℕ) → first ≤ y → y < vertex_count s.graph → k ≤ length_at s.graph y) where
+    (is_first : IsFirst s.graph k first) where
   -- the vertices that stand are among those of the level
   pub starts_within : (few : length f.runs ≤ f.vertices) → length f.runs ≤ vertex_count s.graph - first
   starts_within few = elim (cases_lt (vertex_count s.graph - first) (length f.runs)) [
     | inl beyond ↦
         absurd (let y = vertex_count s.graph - length f.runs in
         let long : suc k ≤ length_at s.graph (vertex_count s.graph - length f.runs) =
-        longer_held.only (vertex_count s.graph - length f.runs) (omega (arith, beyond, within))
+        longer_held.only (vertex_count s.graph - length f.runs) (omega (arith, beyond, is_first.within))
         (omega (arith, few, longer_held.vertices)) in
-        let short = shorter y (omega (arith, beyond, within)) in
+        let short = is_first.shorter y (omega (arith, beyond, is_first.within)) in
         omega (arith, long, short))
     | inr inside ↦ inside
   ]
@@ -179,33 +188,44 @@ module _ {A : Type 0} {s : SheafState A} {k d first : ℕ} {f : FamilyTable} (lo
       (b y : ℕ) → y + suc b ≡ vertex_count s.graph → length f.runs ≤ b → b < vertex_count s.graph - first →
       length_at s.graph y ≡ k
   of_length b y at from below =
-      let long = longer y (omega (arith, at, below)) (omega (arith, at)) in
+      let long = is_first.longer y (omega (arith, at, below)) (omega (arith, at)) in
       elim (cases_lt k (length_at s.graph y)) [
         | inl longer_than ↦
             absurd (let there = longer_held.has y (omega (arith, at), longer_than) in omega (arith, there, at, from))
         | inr short ↦ omega (arith, long, short)
       ]
 
+  -- where the loop over the vertices ends
+  pub level_filled :
+      {block : ℕ → DegreeBlock} {new : FamilyTable} {start end b : ℕ} → IsFamilyTable f → start ≡ length f.runs →
+      end ≡ vertex_count s.graph - first → (start ≤ end → b ≤ end) → end ≤ b → IsFilled s k d block f b new →
+      IsFilled s k d block f (vertex_count s.graph - first) new
+  level_filled {block = block} {new = new} {start = start} {end = end} {b = b} table start_is end_is ends past h =
+      let inside = starts_within table.few in
+      let last : b ≤ end = ends (omega (arith, start_is, end_is, inside)) in
+      let all : b ≡ vertex_count s.graph - first = omega (arith, last, past, end_is) in
+      subst (λ n. IsFilled s k d block f n new) all h
+
   module _ {block : ℕ → DegreeBlock} {new : FamilyTable}
       (h : IsFilled s k d block f (vertex_count s.graph - first) new) where
     inside_first : (y : ℕ) → level_vertices s.graph k y → first ≤ y
     inside_first y inside = elim (cases_lt y first) [
-      | inl before ↦ absurd (let short = shorter y before in omega (arith, short, inside.1))
+      | inl before ↦ absurd (let short = is_first.shorter y before in omega (arith, short, inside.1))
       | inr from ↦ from
     ]
 
     there : (y : ℕ) → level_vertices s.graph k y → vertex_count s.graph ≤ y + (vertex_count s.graph - first)
-    there y inside = let from = inside_first y inside in omega (arith, from, within)
+    there y inside = let from = inside_first y inside in omega (arith, from, is_first.within)
 
     pub holds_level : HoldsLevel s k d new
     holds_level = record {
       vertices = h.vertices;
       has = λ y inside. omega (arith, there y inside, h.runs);
-      only = λ y below from. longer y (omega (arith, from, h.runs, within)) below;
+      only = λ y below from. is_first.longer y (omega (arith, from, h.runs, is_first.within)) below;
       sizes = λ y inside. h.sizes y inside.0 (there y inside);
     }
 
-    size : ℕ → ℕ
+    abbrev size : ℕ → ℕ
     size z = new_at s.graph k block (falling s.graph z)
 
     none_behind : sum_below (λ i. size (vertex_count s.graph - first + i)) first ≡ 0
@@ -214,11 +234,11 @@ module _ {A : Type 0} {s : SheafState A} {k d first : ℕ} {f : FamilyTable} (lo
         (λ i below.
         let z = falling s.graph (vertex_count s.graph - first + i) in
         new_at_none s.graph k block (falling s.graph (vertex_count s.graph - first + i))
-        (λ same. let short = shorter z (omega (arith, below, within)) in omega (arith, short, same)))
+        (λ same. let short = is_first.shorter z (omega (arith, below, is_first.within)) in omega (arith, short, same)))
 
     counted : new.count ≡ f.count + new_count s.graph k block
     counted =
-        let whole : vertex_count s.graph - first + first ≡ vertex_count s.graph = omega (arith, within) in
+        let whole : vertex_count s.graph - first + first ≡ vertex_count s.graph = omega (arith, is_first.within) in
         omega (
           arith,
           h.count,

@@ -6,19 +6,18 @@ use Rattle.bmp_math.proofs.SumLemmas.{sum_below_same}
 use Rattle.bmp_graph.specs.Graph.{Graph, vertex_count, length_at}
 use Rattle.bmp_linear.specs.declared.blocks.DegreeBlock.{DegreeBlock}
 use Rattle.bmp_linear.specs.Evidence.{vector_at}
-use Rattle.bmp_sheaf.specs.Sheaves.{SheafData}
 use Rattle.bmp_sections.specs.TupleLists.{TupleList}
 use Rattle.bmp_levels.specs.Levels.{level_vertices}
-use Rattle.bmp_levels.specs.Lists.{sized, SameList}
+use Rattle.bmp_levels.specs.Lists.{SameList}
 use Rattle.bmp_levels.specs.Families.{falling, new_at, new_start, new_count, new_value}
-use Rattle.bmp_levels.specs.Families.{extended, extended_value, stalk_size, family}
+use Rattle.bmp_levels.specs.Families.{extended_value, family}
 use Rattle.bmp_levels.specs.Statements.{FamiliesGoOn}
-use Rattle.bmp_levels.proofs.Members.{new_at_is, new_at_none, at_level, off_level, here_value, away_value}
+use Rattle.bmp_levels.proofs.MemberValues.{new_at_is, new_at_none, at_level, off_level, here_value, away_value}
 use Rattle.bmp_levels.proofs.Families.{family_next, family_size}
 
 -- ---- blocks that are the same at the vertices of length k
 
-module _ {G : Graph} {k : ℕ} {own block : ℕ → DegreeBlock}
+module _ (G : Graph) (k : ℕ) (own block : ℕ → DegreeBlock)
     (same : (x : ℕ) → x < vertex_count G → length_at G x ≡ k → own x ≡ block x) where
   new_at_same : (x : ℕ) → x < vertex_count G → new_at G k own x ≡ new_at G k block x
   new_at_same x below = elim (cases_eq (length_at G x) k) [
@@ -67,8 +66,8 @@ module _ {G : Graph} {k : ℕ} {own block : ℕ → DegreeBlock}
 
 -- ---- lists with the same values at the longer vertices
 
-module _ {G : Graph} {k : ℕ} {a b : TupleList} (same : SameList (level_vertices G (suc k)) a b)
-    (block : ℕ → DegreeBlock) where
+module _ (G : Graph) (k : ℕ) (block : ℕ → DegreeBlock) (a b : TupleList)
+    (same : SameList (level_vertices G (suc k)) a b) where
   new_here_same : (j y c : ℕ) → here_value G k block a j y c ≡ here_value G k block b j y c
   new_here_same j y c =
       ap
@@ -110,15 +109,16 @@ module _ {G : Graph} {k : ℕ} {a b : TupleList} (same : SameList (level_vertice
 pub families_go_on : FamiliesGoOn
 families_go_on G F d top block k own f a below same_blocks same is =
     let next = family G F d top block (suc k) in
+    let counts : new_count G k own ≡ new_count G k block = new_count_same G k own block same_blocks in
     subst (SameList (level_vertices G k) f) (sym (family_next G F d top block k below))
     (record {
       count = is.count ∙ ap (λ n. n + new_count G k own) same.count
-          ∙ ap (λ n. next.count + n) (new_count_same same_blocks);
+          ∙ ap (λ n. next.count + n) counts;
       has = is.has;
       size = λ y inside. is.size y inside ∙ sym (family_size G F d top block (suc k) y);
       value = λ j y c is_member inside coordinate.
-          is.value j y c (omega (arith, is_member, same.count, new_count_same same_blocks)) inside
+          is.value j y c (omega (arith, is_member, same.count, counts)) inside
           (subst (λ n. c < n) (family_size G F d top block (suc k) y) coordinate)
-          ∙ value_same same own j y c inside coordinate
-          ∙ ap (λ (v : ℕ → ℕ). v c) (extended_same same_blocks next j y inside.0);
+          ∙ value_same G k own a next same j y c inside coordinate
+          ∙ ap (λ (v : ℕ → ℕ). v c) (extended_same G k own block same_blocks next j y inside.0);
     })

@@ -1,5 +1,5 @@
 -- An extension in memory keeps sections, spanning and independence.
-use Rattle.std.proofs.Common.{◌≡◌, ℕ, suc, ◌<◌, ◌≤◌, refl}
+use Rattle.std.proofs.Common.{ℕ, refl}
 use Rattle.bmp_graph.specs.Graph.{Graph}
 use Rattle.bmp_linear.specs.declared.blocks.DegreeBlock.{DegreeBlock}
 use Rattle.bmp_sheaf.specs.Sheaves.{SheafData}

@@ -1,6 +1,6 @@
 -- Where evidence by levels passes, the sheaf is a Braden-MacPherson sheaf and each family is a basis, level by level
 -- from the top down.
-use Rattle.std.proofs.Common.{◌≡◌, ◌≢◌, ℕ, zero, suc, ◌+◌, ◌-◌, ◌<◌, ◌≤◌, refl, sym, ap, subst, ◌∙◌, inl, inr, arith}
+use Rattle.std.proofs.Common.{◌≡◌, ◌≢◌, ℕ, zero, suc, ◌+◌, ◌-◌, ◌<◌, ◌≤◌, refl, sym, ap, subst, inl, inr, arith}
 use Rattle.std.proofs.lemmas.Bool.{cases_eq}
 use Rattle.bmp_graph.specs.Graph.{Graph, IsAbove, vertex_count, length_at, upper}
 use Rattle.bmp_graph.specs.Graph.IsAbove.{edge}

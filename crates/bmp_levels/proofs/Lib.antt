@@ -1,5 +1,5 @@
 pub mod Extending
-pub mod Members
+pub mod MemberValues
 pub mod KernelVectors
 pub mod ExtendedSections
 pub mod ExtendedSpans

@@ -1,7 +1,7 @@
 -- The family over all vertices in memory, level by level; lengths may have gaps.
 use Rattle.std.proofs.Common.{◌≡◌, ℕ, suc, ◌+◌, ◌-◌, ◌<◌, ◌≤◌, length, refl, sym, ap, subst, ◌∙◌, inl, inr, arith}
 use Rattle.std.proofs.lemmas.Bool.{cases_lt}
-use Rattle.std.specs.Prelude.{Bool, IsTrue}
+use Rattle.std.specs.Prelude.{Bool}
 use Rattle.bmp_poly.specs.Exponents.{count}
 use Rattle.bmp_graph.specs.Graph.{Graph, IsGraph, vertex_count, length_at}
 use Rattle.bmp_linear.specs.declared.blocks.DegreeBlock.{DegreeBlock}
@@ -10,17 +10,17 @@ use Rattle.bmp_sheaf.specs.States.{SheafState, sheaf_of}
 use Rattle.bmp_sections.specs.TupleLists.{TupleList}
 use Rattle.bmp_levels.specs.Levels.{level_vertices}
 use Rattle.bmp_levels.specs.Lists.{first_members, SameList}
-use Rattle.bmp_levels.specs.Families.{family, member_count, stalk_size}
-use Rattle.bmp_levels.specs.Runs.{FamilyTable, run_at, list_of}
+use Rattle.bmp_levels.specs.Families.{family, member_count}
+use Rattle.bmp_levels.specs.Runs.{FamilyTable, list_of}
 use Rattle.bmp_levels.specs.Extensions.{BlockFits, HoldsLevel, LevelFits, AllFit, IsExtension}
-use Rattle.bmp_levels.proofs.Families.{family_counted, family_size, has_family, first_members_are_family, same_sums}
+use Rattle.bmp_levels.proofs.Families.{family_counted, family_size, first_members_are_family, same_sums}
 use Rattle.bmp_levels.proofs.GoingOn.{families_go_on}
 
 -- no vertex has a length from k to l - 1
 abbrev pub IsGap : Graph → ℕ → ℕ → Type 0
 IsGap G k l = (y : ℕ) → y < vertex_count G → k ≤ length_at G y → l ≤ length_at G y
 
-module _ {G : Graph} {F : SheafData} {d top : ℕ} {block : ℕ → DegreeBlock} where
+module _ (G : Graph) (F : SheafData) (d top : ℕ) (block : ℕ → DegreeBlock) where
   abbrev families : ℕ → TupleList
   families = family G F d top block
 
@@ -56,20 +56,19 @@ pub record IsPartial {A : Type 0} (s : SheafState A) (d : ℕ) (block : ℕ → 
       SameList (level_vertices s.graph level) (list_of f)
       (family s.graph (sheaf_of s) d (vertex_count s.graph - 1) block level)
 
+-- the next vertex has length k
 module _ {A : Type 0} {s : SheafState A} {d : ℕ} {block : ℕ → DegreeBlock} {f : FamilyTable} (is : IsGraph s.graph)
-    (made : IsPartial s d block f) (few : length f.runs < vertex_count s.graph) where
+    (made : IsPartial s d block f) (few : length f.runs < vertex_count s.graph) {k : ℕ}
+    (k_is : k ≡ length_at s.graph (vertex_count s.graph - 1 - length f.runs)) where
   abbrev next : ℕ
   next = vertex_count s.graph - 1 - length f.runs
 
-  abbrev k : ℕ
-  k = length_at s.graph next
-
-  -- the next vertex is shorter
-  pub next_shorter : length_at s.graph (vertex_count s.graph - 1 - length f.runs) < made.level
-  next_shorter = elim (cases_lt (length_at s.graph (vertex_count s.graph - 1 - length f.runs)) made.level) [
+  -- it is shorter than what is there
+  next_shorter : k < made.level
+  next_shorter = elim (cases_lt k made.level) [
     | inl short ↦ short
     | inr long ↦
-        absurd (let there = made.holds.has next (omega (arith, few), long) in omega (arith, there, few))
+        absurd (let there = made.holds.has next (omega (arith, few), omega (arith, long, k_is)) in omega (arith, there, few))
   ]
 
   -- and no vertex is longer than that, and shorter than what is there
@@ -77,52 +76,54 @@ module _ {A : Type 0} {s : SheafState A} {d : ℕ} {block : ℕ → DegreeBlock}
   gap y below long = elim (cases_lt y (vertex_count s.graph - length f.runs)) [
     | inl before ↦
         absurd (let rises : length_at s.graph y ≤ length_at s.graph (vertex_count s.graph - 1 - length f.runs) =
-        is.lengths_rise y next (omega (arith, before)) (omega (arith, few)) in omega (arith, rises, long))
+        is.lengths_rise y next (omega (arith, before)) (omega (arith, few)) in omega (arith, rises, long, k_is))
     | inr from ↦ made.holds.only y below (omega (arith, from))
   ]
 
-  pub next_holds : HoldsLevel s (suc (length_at s.graph (vertex_count s.graph - 1 - length f.runs))) d f
+  pub next_holds : HoldsLevel s (suc k) d f
   next_holds = record {
     vertices = made.holds.vertices;
     has = λ y inside. made.holds.has y (inside.0, gap y inside.0 inside.1);
-    only = λ y below there. (let long = made.holds.only y below there in let short = next_shorter in omega (arith, long, short));
+    only = λ y below there.
+        (let long = made.holds.only y below there in let short = next_shorter in omega (arith, long, short));
     sizes = λ y inside. made.holds.sizes y (inside.0, gap y inside.0 inside.1);
   }
 
   next_same :
       SameList (level_vertices s.graph (suc k)) (list_of f)
       (family s.graph (sheaf_of s) d (vertex_count s.graph - 1) block (suc k))
-  next_same = family_over_gap (suc k) made.level (list_of f) next_shorter made.below gap made.same
+  next_same =
+      family_over_gap s.graph (sheaf_of s) d (vertex_count s.graph - 1) block (suc k) made.level (list_of f) next_shorter
+      made.below gap made.same
+
+  short : k < length_at s.graph (vertex_count s.graph - 1)
+  short = let less = next_shorter in omega (arith, less, made.below)
 
   -- its blocks fit
-  pub next_fits :
-      (has : ℕ → Bool) → AllFit s d has block →
-      LevelFits s (length_at s.graph (vertex_count s.graph - 1 - length f.runs)) d f.count has block
+  pub next_fits : (has : ℕ → Bool) → AllFit s d has block → LevelFits s k d f.count has block
   next_fits has all x below here =
-      let short = next_shorter in
-      let fits = all x below (omega (arith, here, short, made.below)) in
+      let less = short in
+      let fits = all x below (omega (arith, here, less)) in
       let counted : f.count ≡ member_count s.graph d (vertex_count s.graph - 1) block (suc (length_at s.graph x)) =
       next_same.count
-      ∙ family_counted s.graph (sheaf_of s) d (vertex_count s.graph - 1) block (suc k) (omega (arith, short, made.below))
+      ∙ family_counted s.graph (sheaf_of s) d (vertex_count s.graph - 1) block (suc k) less
       ∙ ap (λ n. member_count s.graph d (vertex_count s.graph - 1) block (suc n)) (sym here) in
       (fits.0, subst (λ n. BlockFits s d n x (block x)) (sym counted) fits.1)
 
-  module _ {new : FamilyTable}
-      (holds : HoldsLevel s (length_at s.graph (vertex_count s.graph - 1 - length f.runs)) d new)
-      (extended : IsExtension s (length_at s.graph (vertex_count s.graph - 1 - length f.runs)) d block f new) where
+  module _ {new : FamilyTable} (holds : HoldsLevel s k d new) (extended : IsExtension s k d block f new) where
     pub made_more : IsPartial s d block new
     made_more = record {
       level = k;
-      below = (let short = next_shorter in omega (arith, short, made.below));
+      below = (let less = short in omega (arith, less));
       holds = holds;
       same =
           families_go_on s.graph (sheaf_of s) d (vertex_count s.graph - 1) block k block (list_of new) (list_of f)
-          (let short = next_shorter in omega (arith, short, made.below)) (λ x below here. refl) next_same extended;
+          short (λ x below here. refl) next_same extended;
     }
 
     pub fewer_left : vertex_count s.graph - length new.runs < vertex_count s.graph - length f.runs
     fewer_left =
-        let there = holds.has next (omega (arith, few), omega arith) in omega (arith, there, few)
+        let there = holds.has next (omega (arith, few), omega (arith, k_is)) in omega (arith, there, few)
 
 module _ {A : Type 0} {s : SheafState A} {d : ℕ} {block : ℕ → DegreeBlock} {f : FamilyTable}
     (made : IsPartial s d block f) (all : vertex_count s.graph ≤ length f.runs) where
@@ -139,7 +140,7 @@ module _ {A : Type 0} {s : SheafState A} {d : ℕ} {block : ℕ → DegreeBlock}
 
   all_same : SameList (level_vertices s.graph 0) (list_of f) (family s.graph (sheaf_of s) d top block 0)
   all_same =
-      family_over_gap 0 made.level (list_of f) (omega arith) made.below
+      family_over_gap s.graph (sheaf_of s) d top block 0 made.level (list_of f) (omega arith) made.below
       (λ y below long. made.holds.only y below (omega (arith, all))) made.same
 
   pub all_families :

@@ -1,4 +1,5 @@
 -- What an extension in memory is given, and what it gives, of a sheaf in memory. In the order to read:
+--   IsFirst G k first                the vertices of length at least k are those from this number on
 --   HasTop s                         the greatest vertex alone has the greatest length, and its stalk has one generator,
 --                                    of degree 0
 --   HoldsLevel s k d f               the family has the values of degree d at the vertices of length at least k, and at
@@ -23,6 +24,11 @@ use Rattle.bmp_levels.specs.Families.{extended, stalk_size, member_count}
 use Rattle.bmp_levels.specs.Bases.{AreSectionsOver, AreSpanning, AreIndependent}
 use Rattle.bmp_levels.specs.Evidence.{ExtendsBy}
 use Rattle.bmp_levels.specs.Runs.{FamilyTable, run_at, list_of}
+
+pub record IsFirst (G : Graph) (k first : ℕ) : Type 0 where
+  pub within : first ≤ vertex_count G
+  pub shorter : (y : ℕ) → y < first → length_at G y < k
+  pub longer : (y : ℕ) → first ≤ y → y < vertex_count G → k ≤ length_at G y
 
 pub record HasTop {A : Type 0} (s : SheafState A) : Type 0 where
   pub is_top : IsTopVertex s.graph (vertex_count s.graph - 1)

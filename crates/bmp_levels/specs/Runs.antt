@@ -10,9 +10,9 @@
 --   joined_value before covers basis j
 --                                the value of the member j at a vertex where `before` members have covers, and then
 --                                come the basis vectors
---   IsRunOf size before covers basis r
+--   IsRunOf coordinates before covers basis r
 --                                the run has these values
---   IsRunAdded size covers basis old new
+--   IsRunAdded coordinates covers basis old new
 --                                new has one vertex more than old, with such a run and a new member for each vector of
 --                                the basis
 --   AreUnits n vs                the vectors that are 1 at one of n places, in the order of the places
@@ -53,20 +53,21 @@ list_of f = record {
 }
 
 pub record IsFamilyTable (f : FamilyTable) : Type 0 where
+  pub small : f.vertices ≤ 4096
   pub few : length f.runs ≤ f.vertices
   pub counts : All (λ r. r.count ≤ f.count) f.runs
 
 abbrev pub joined_value : ℕ → List (List Entry) → List (List Entry) → ℕ → ℕ → ℕ
 joined_value before covers basis j = if nat_le before j then vector_at basis (j - before) else vector_at covers j
 
-pub record IsRunOf (size before : ℕ) (covers basis : List (List Entry)) (r : RunTable) : Type 0 where
-  pub size : r.size ≡ size
+pub record IsRunOf (coordinates before : ℕ) (covers basis : List (List Entry)) (r : RunTable) : Type 0 where
+  pub size : r.size ≡ coordinates
   pub count : r.count ≡ before + length basis
   pub value : (j c : ℕ) → run_value r j c ≡ joined_value before covers basis j c
 
-pub record IsRunAdded (size : ℕ) (covers basis : List (List Entry)) (old new : FamilyTable) : Type 0 where
+pub record IsRunAdded (coordinates : ℕ) (covers basis : List (List Entry)) (old new : FamilyTable) : Type 0 where
   pub run : RunTable
-  pub is_run : IsRunOf size old.count covers basis run
+  pub is_run : IsRunOf coordinates old.count covers basis run
   pub runs : new.runs ≡ old.runs ++ run ∷ []
   pub count : new.count ≡ old.count + length basis
   pub vertices : new.vertices ≡ old.vertices

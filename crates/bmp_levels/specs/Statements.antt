@@ -115,10 +115,13 @@ FamiliesAreCounted = (G : Graph) (F : SheafData) (d top : ℕ) (block : ℕ → 
 abbrev pub FirstMembersAreFamily : Type 0
 FirstMembersAreFamily = (G : Graph) (F : SheafData) (d top : ℕ) (block : ℕ → DegreeBlock) → HasPrefixes G F d top block
 
-abbrev pub BlocksAreBelow : Graph → ℕ → (ℕ → DegreeBlock) → Type 0
-BlocksAreBelow G top block =
-    (x : ℕ) → x < vertex_count G → length_at G x < length_at G top →
-    All (λ v. ValuesBelow v G.prime) (block x).kernel.basis × All (λ v. ValuesBelow v G.prime) (block x).cover.covers
+pub record BlocksAreBelow (G : Graph) (top : ℕ) (block : ℕ → DegreeBlock) : Type 0 where
+  pub basis :
+      (x : ℕ) → x < vertex_count G → length_at G x < length_at G top →
+      All (λ v. ValuesBelow v G.prime) (block x).kernel.basis
+  pub covers :
+      (x : ℕ) → x < vertex_count G → length_at G x < length_at G top →
+      All (λ v. ValuesBelow v G.prime) (block x).cover.covers
 
 abbrev pub FamiliesAreBelow : Type 0
 FamiliesAreBelow =

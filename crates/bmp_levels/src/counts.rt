@@ -31,8 +31,9 @@ fn longer_count(graph: &MomentGraph, x: u32, counts: &[u64], sum: u64) -> u64
         → result ≡ slice_index counts.now (x + 1) }
     ensures shorter { (x + 1 < vertex_count graph.now → length_at graph.now x ≢ length_at graph.now (x + 1)) → result ≡ sum }
 {
+    let vertices = graph.vertices();
     let next = x + 1;
-    if next < graph.vertices() && graph.length(x) == graph.length(next) {
+    if next < vertices && graph.length(x) == graph.length(next) {
         counts[next as usize]
     } else {
         sum

@@ -3,7 +3,7 @@ ghost use Rattle.std.specs.Prelude.{◌≡◌, ℕ, suc, ◌<◌, ◌≤◌, IfO
 ghost use Rattle.bmp_graph.specs.Graph.{vertex_count, length_at};
 ghost use Rattle.bmp_sheaf.specs.States.{sheaf_of};
 ghost use Rattle.bmp_levels.specs.Runs.{list_of};
-ghost use Rattle.bmp_levels.specs.Extensions.{HoldsLevel, LevelFits, IsExtension, KeepsBases};
+ghost use Rattle.bmp_levels.specs.Extensions.{IsFirst, HoldsLevel, LevelFits, IsExtension, KeepsBases};
 
 use crate::family::Family;
 use crate::level_blocks::LevelBlocks;
@@ -14,9 +14,7 @@ use std::alloc::AllocError;
 
 /// The first vertex of length `k` or more, or the number of vertices.
 fn first_of_level(graph: &MomentGraph, k: u32) -> u32
-    ensures within { result ≤ vertex_count graph.now }
-    ensures shorter { (y : ℕ) → y < result → length_at graph.now y < k }
-    ensures longer { (y : ℕ) → result ≤ y → y < vertex_count graph.now → k ≤ length_at graph.now y }
+    ensures { IsFirst graph.now k result }
 {
     for y in 0..graph.vertices() {
         if graph.length(y) >= k {

@@ -1,7 +1,7 @@
 //! Families of tuples in memory, coordinate by coordinate.
 ghost use Rattle.std.specs.Prelude.{◌≡◌, ◌<◌, ◌≤◌, [], All, IsTrue, IfOk, OnOk, OnErr, length};
 ghost use Rattle.bmp_linear.specs.SparseVectors.{FitsBelow};
-ghost use Rattle.bmp_levels.specs.Runs.{run_at, list_of, IsRunAdded};
+ghost use Rattle.bmp_levels.specs.Runs.{run_at, list_of, IsRunAdded, IsFamilyTable};
 
 use crate::members::Members;
 use crate::run::Run;
@@ -34,6 +34,7 @@ impl Model for Family {
 impl Family {
     /// A family of no members at no vertex, of a graph with so many.
     pub(crate) fn new(alloc: Global, vertices: u32) -> Result<Family, AllocError>
+        requires { vertices ≤ 4096 }
         ensures { IfOk result (λ f. f ≡ record { vertices = vertices; count = 0; runs = [] }) }
     {
         Ok(Family {
@@ -54,6 +55,7 @@ impl Family {
     pub fn vertices(&self) -> u32
         ensures count { result ≡ length self.now.runs }
         ensures within { result ≤ self.now.vertices }
+        ensures table { IsFamilyTable self.now }
     {
         self.runs.len() as u32
     }

@@ -6,6 +6,21 @@ ghost use Rattle.bmp_levels.specs.Runs.{list_of};
 use crate::family::Family;
 use bmp_sections::Sections;
 
+/// Adds `factor` times the numbers to as many of the sums.
+fn add_multiples(factor: u8, numbers: &[u8], sums: &mut [u16])
+    requires few { length numbers.now ≤ length sums.old }
+    requires room { (j : ℕ) → j < length numbers.now
+        → slice_index sums.old j + factor * slice_index numbers.now j < 2 ^ 16 }
+    ensures added { (j : ℕ) → j < length numbers.now
+        → slice_index sums.new j ≡ slice_index sums.old j + factor * slice_index numbers.now j }
+    ensures kept { (j : ℕ) → length numbers.now ≤ j → slice_index sums.new j ≡ slice_index sums.old j }
+    ensures sums { length sums.new ≡ length sums.old }
+{
+    for (j, number) in numbers.iter().enumerate() {
+        sums[j] += u16::from(factor) * u16::from(*number);
+    }
+}
+
 /// The first members of a family, as a list of tuples. It keeps none of them.
 #[derive(Drop)]
 pub struct Members<'a> {
@@ -35,9 +50,9 @@ impl<'a> Members<'a> {
             → slice_index sums.new j ≡ slice_index sums.old j + factor * (list_of self.now.family.now).value j y c }
         ensures members { length sums.new ≡ length sums.old }
     {
-        for (sum, number) in sums.iter_mut().zip(self.family.run(y).coordinate(c)) {
-            *sum += u16::from(factor) * u16::from(*number);
-        }
+        let numbers = self.family.run(y).coordinate(c);
+        let count = numbers.len().min(sums.len());
+        add_multiples(factor, &numbers[..count], sums);
     }
 }
 
@@ -53,6 +68,6 @@ impl<'a> Sections for Members<'a> {
     }
 
     fn at(&self, j: u64, y: u32, c: u64) -> u8 {
-        self.family.run(y).at(j as u32, c as u32)
+        self.family.run(y).at(j, c)
     }
 }

@@ -3,7 +3,7 @@ ghost use Rattle.std.specs.Prelude.{◌≡◌, ℕ, ◌+◌, ◌*◌, ◌^◌, �
 ghost use Rattle.bmp_linear.specs.SparseVectors.{FitsBelow};
 ghost use Rattle.bmp_levels.specs.Runs.{run_value, IsRunOf};
 
-use crate::columns::write_columns;
+use crate::columns::write_vectors;
 use bmp_linear::Vectors;
 use std::alloc::{AllocError, Global};
 use std::marker::Model;
@@ -55,8 +55,7 @@ impl Run {
         let count = before + basis.len();
         let width = count as usize;
         let mut values = zeros(alloc, size as usize * width)?;
-        write_columns(&mut values, width, 0, covers);
-        write_columns(&mut values, width, before as usize, basis);
+        write_vectors(&mut values, width, before as usize, covers, basis);
         Ok(Run {
             size,
             count,
@@ -72,14 +71,15 @@ impl Run {
     }
 
     /// The coordinate `c` of the value of the member `j`.
-    pub(crate) fn at(&self, j: u32, c: u32) -> u8
+    pub(crate) fn at(&self, j: u64, c: u64) -> u8
         requires { c < self.now.size }
         ensures { result ≡ run_value self.now j c }
     {
-        if j >= self.count {
+        let count = u64::from(self.count);
+        if j >= count {
             return 0;
         }
-        self.values[c as usize * self.count as usize + j as usize]
+        self.values[(c * count + j) as usize]
     }
 
     /// The coordinate `c` of the values, one byte for each member that was there.

@@ -1,5 +1,5 @@
 //! The family over all vertices.
-ghost use Rattle.std.specs.Prelude.{ℕ, ◌<◌, ◌≤◌, ◌-◌, IfOk};
+ghost use Rattle.std.specs.Prelude.{◌≡◌, ℕ, ◌<◌, ◌≤◌, ◌-◌, IfOk, length};
 ghost use Rattle.bmp_graph.specs.Graph.{vertex_count, length_at};
 ghost use Rattle.bmp_sheaf.specs.States.{sheaf_of};
 ghost use Rattle.bmp_levels.specs.Levels.{level_vertices};
@@ -11,8 +11,17 @@ ghost use Rattle.bmp_levels.specs.Extensions.{HoldsLevel, HasTop, AllFit};
 use crate::family::Family;
 use crate::level_blocks::LevelBlocks;
 use bmp_field::Field;
+use bmp_graph::MomentGraph;
 use bmp_sheaf::Sheaf;
 use std::alloc::{AllocError, Global};
+
+/// The length of the next vertex, which has no values yet.
+fn next_length(graph: &MomentGraph, family: &Family) -> u32
+    requires { length family.now.runs < vertex_count graph.now }
+    ensures { result ≡ length_at graph.now (vertex_count graph.now - 1 - length family.now.runs) }
+{
+    graph.length(graph.vertices() - 1 - family.vertices())
+}
 
 impl Family {
     /// The family over all vertices, made level by level from blocks of all vertices but the greatest. Its first members
@@ -38,7 +47,7 @@ impl Family {
         let graph = sheaf.graph();
         let mut family = Family::top(alloc, sheaf, d)?;
         while family.vertices() < graph.vertices() {
-            let k = graph.length(graph.vertices() - 1 - family.vertices());
+            let k = next_length(graph, &family);
             family = family.extend_level(sheaf, k, d, blocks)?;
         }
         Ok(family)

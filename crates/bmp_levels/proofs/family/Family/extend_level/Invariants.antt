@@ -1,5 +1,5 @@
 use Rattle.bmp_levels.proofs.Filling.{IsFilled}
-use Rattle.bmp_levels.proofs.extend.Family.extend_level.Given as goal
+use Rattle.bmp_levels.proofs.family.Family.extend_level.Given as goal
 
 -- the vertices so far are filled in
 abbrev pub invariant-loop-b : goal.invariant-loop-b
