@@ -16,7 +16,12 @@ use Rattle.bmp_interval.proofs.IntervalLemmas.{only_longest}
 use Rattle.bmp_graph.specs.Graph.{Graph, vertex_count, length_at}
 use Rattle.bmp_cover.specs.BradenMacPherson.{IsTopVertex}
 use Rattle.bmp_cert.specs.declared.cert.Cert.{Cert}
+use Rattle.bmp_cert.specs.Limits.{max_version}
+use Rattle.bmp_cert.specs.Versions.{IsVersionOf}
 use Rattle.bmp_cert.specs.CertGrammar.{HavePartLines}
+use Rattle.bmp_cert.specs.declared.lattice.Lattice.{Lattice}
+use Rattle.bmp_cert.specs.declared.lattice.Lattice.TheVariants.{Plain, Root, Weight}
+use Rattle.bmp_cert.proofs.RuleLemmas.{keeps_prime, keeps_degree}
 use Rattle.bmp_cert.specs.Counts.{written_by}
 use Rattle.bmp_check.specs.Accepted.{IsAccepted, IsCheckable, AcceptedIsCheckable, top_vertex}
 
@@ -44,6 +49,11 @@ module _ (m : CartanMatrix) (roots : List Vector) (system : IsRootSystem m roots
       ]
 
 -- ---- the graph
+
+first_version : (l : Lattice) (v : ℕ) → IsVersionOf l v → v ≤ max_version → v ≡ 1
+first_version Plain v of few = omega (arith, of.0, few)
+first_version Root v of few = absurd (omega (arith, of, few))
+first_version Weight v of few = absurd (omega (arith, of, few))
 
 module _ (G : Graph) (c : Cert) (accepted : IsAccepted G c) where
   prime_is : G.prime ≡ c.job.prime
@@ -82,15 +92,17 @@ module _ (G : Graph) (c : Cert) (accepted : IsAccepted G c) where
       let rank = accepted.graph.bruhat.rank in
       let few = accepted.graph.interval.interval.few in
       record {
-        version = accepted.formed.version;
+        version = first_version c.job.lattice c.version accepted.formed.version accepted.formed.printed;
         graph = accepted.graph.graph;
-        prime = subst (λ p. IsTrue (is_listed p)) (sym prime_is) accepted.rules.0.prime;
+        prime = subst (λ p. IsTrue (is_listed p)) (sym prime_is) (keeps_prime c.job accepted.rules);
         some_variables = let least = form.at_least_one in omega (arith, least, rank);
         few_variables = let most = form.at_most_six in omega (arith, most, rank);
         few_vertices = omega (arith, few, count);
         last_is_top = last_is_top;
-        degree = accepted.rules.0.degree;
-        formed = subst (λ p. HavePartLines (p - 1) c.job.degree c.vertices) (sym prime_is) accepted.formed.vertices;
+        degree = keeps_degree c.job accepted.rules;
+        formed = subst (λ p. HavePartLines 1 (p - 1) c.job.degree c.vertices) (sym prime_is)
+            (subst (λ v. HavePartLines v (c.job.prime - 1) c.job.degree c.vertices)
+            (first_version c.job.lattice c.version accepted.formed.version accepted.formed.printed) accepted.formed.vertices);
       }
 
 pub accepted_is_checkable : AcceptedIsCheckable

@@ -106,11 +106,11 @@ module _ (most : ℕ) where
 
 -- ---- a vertex and a block
 
-module _ (G : Graph) (c : Written) (formed : HavePartLines (G.prime - 1) c.degree c.parts) (counted : CountPasses G c) (passes : ShapePasses G 1 c) where
+module _ (G : Graph) (c : Written) (formed : HavePartLines 1 (G.prime - 1) c.degree c.parts) (counted : CountPasses G c) (passes : ShapePasses G 1 c) where
   abbrev least : ℕ
   least = G.prime - 1
 
-  part_here : (x : ℕ) → x + 1 < vertex_count G → IsPart least c.degree x (part_of c x)
+  part_here : (x : ℕ) → x + 1 < vertex_count G → IsPart 1 least c.degree x (part_of c x)
   part_here x vertex = part_formed least c formed x (omega (arith, counted))
 
   all_sizes : (x d : ℕ) → HasBlock G c x d → AllHold (shape_sizes G 1 c x d)
@@ -170,10 +170,10 @@ module _ (G : Graph) (c : Written) (formed : HavePartLines (G.prime - 1) c.degre
         };
         basis_sparse = vectors_sparse least tuples b.kernel.basis text.basis;
         rows_sparse = vectors_sparse least (length b.kernel.pivots) b.kernel.rows text.rows;
-        cover_for_each = text.covers.0;
+        cover_for_each = text.as_many refl;
         source_for_each = text.sources.0;
         dual_for_each = text.duals.0;
-        covers = vectors_in least G.prime n.stalk tuples b.cover.covers refl text.covers (each_fits b.cover.covers n.stalk covers.0);
+        covers = vectors_in least G.prime n.stalk tuples b.cover.covers refl (text.as_many refl, text.covers.1) (each_fits b.cover.covers n.stalk covers.0);
         sources = vectors_in least G.prime tuples (generator_count c x d) b.cover.sources refl text.sources (each_fits b.cover.sources tuples others.0);
         duals = vectors_in least G.prime n.boundary (generator_count c x d) b.cover.duals refl text.duals (each_fits b.cover.duals n.boundary others.1);
         few = omega arith;

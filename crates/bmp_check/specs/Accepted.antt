@@ -22,7 +22,7 @@ use Rattle.bmp_cert.specs.declared.cert.Cert.{Cert}
 use Rattle.bmp_cert.specs.CertGrammar.{HavePartLines, IsWellFormed}
 use Rattle.bmp_cert.specs.Counts.{Written, written_by}
 use Rattle.bmp_cert.specs.JobGraphs.{IsJobGraph}
-use Rattle.bmp_cert.specs.JobRules.{KeepsRules}
+use Rattle.bmp_cert.specs.JobRules.{rules, KeepsAll}
 use Rattle.bmp_check.specs.declared.refusal.Refusal.{Refusal}
 use Rattle.bmp_check.specs.PartsSheaf.{parts_sheaf}
 use Rattle.bmp_check.specs.Verdicts.{Passes, IsFirstRefusal}
@@ -42,7 +42,7 @@ pub record IsCheckable (G : Graph) (v : ℕ) (c : Written) : Type 0 where
   pub few_vertices : vertex_count G ≤ 4096
   pub last_is_top : IsTopVertex G (top_vertex G)
   pub degree : c.degree ≤ 6
-  pub formed : HavePartLines (G.prime - 1) c.degree c.parts
+  pub formed : HavePartLines 1 (G.prime - 1) c.degree c.parts
 
 abbrev pub PassedIsBradenMacPherson : Type 0
 PassedIsBradenMacPherson = (G : Graph) (v : ℕ) (c : Written) → IsCheckable G v c → Passes G v c → IsBradenMacPherson G (parts_sheaf G c) c.degree (top_vertex G)
@@ -58,7 +58,7 @@ NoneFailsBesidePasses = (G : Graph) (v : ℕ) (c : Written) (r : Refusal) → Pa
 
 pub record IsAccepted (G : Graph) (c : Cert) : Type 0 where
   pub formed : IsWellFormed c
-  pub rules : KeepsRules c.job
+  pub rules : KeepsAll rules c.job
   pub graph : IsJobGraph c.job G
 
 abbrev pub AcceptedIsCheckable : Type 0

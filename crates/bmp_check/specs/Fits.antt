@@ -69,4 +69,4 @@ pub record ShapesFit (G : Graph) (c : Written) : Type 0 where
   pub blocks : (x d : ℕ) → HasBlock G c x d → BlockFits G c x d
 
 abbrev pub ShapeGivesFits : Type 0
-ShapeGivesFits = (G : Graph) (c : Written) → HavePartLines (G.prime - 1) c.degree c.parts → CountPasses G c → ShapePasses G 1 c → ShapesFit G c
+ShapeGivesFits = (G : Graph) (c : Written) → HavePartLines 1 (G.prime - 1) c.degree c.parts → CountPasses G c → ShapePasses G 1 c → ShapesFit G c

@@ -22,6 +22,6 @@ pub record AreSizesOf (G : Graph) (c : Written) (t : SizeTable) : Type 0 where
 
 -- what the pass over all sizes goes by
 pub record IsReady (G : Graph) (c : Written) (t : SizeTable) : Type 0 where
-  pub formed : HavePartLines (G.prime - 1) c.degree c.parts
+  pub formed : HavePartLines 1 (G.prime - 1) c.degree c.parts
   pub vertices : length c.parts ≡ vertex_count G
   pub of : AreSizesOf G c t

@@ -68,7 +68,7 @@ fn check_shape_at(
 
 /// Compares the sizes of all blocks, and of their vertices, and gives the first comparison that fails. Takes no memory.
 pub fn check_shape(graph: &MomentGraph, c: &Given, table: &SizeTable) -> Result<(), Refusal>
-    requires formed { HavePartLines (graph.now.prime - 1) c.now.degree c.now.parts.now }
+    requires formed { HavePartLines 1 (graph.now.prime - 1) c.now.degree c.now.parts.now }
     requires vertices { length c.now.parts.now ≡ vertex_count graph.now }
     requires degree { c.now.degree ≤ 6 }
     requires table { AreSizesOf graph.now (written_in c.now) table.now }
