@@ -4,8 +4,6 @@
 #[cfg(test)]
 mod cert;
 #[cfg(test)]
-mod changed_lines;
-#[cfg(test)]
 mod jobs;
 #[cfg(test)]
 mod ports;
@@ -13,3 +11,5 @@ mod ports;
 mod report;
 #[cfg(test)]
 mod text;
+#[cfg(test)]
+mod versions;

@@ -1,11 +1,14 @@
-//! One certificate of each version, with a line cut out, doubled, exchanged with the next one, or put behind the end: the
-//! first fault.
+//! One certificate of each version: there and back; and with a line cut out, doubled, exchanged with the next one, or put
+//! behind the end, its first fault.
 ghost use Rattle.std.specs.Prelude.{◌≤◌, ◌<◌, IfOk};
 
-use bmp_cert::{CertError, read_job_lines, read_parts};
+use bmp_cert::{
+    CertError, Job, Parts, parts_formed, push_parts, read_cert, read_job_lines, read_parts,
+};
 use bmp_text::TextKind::{self, MissingLine, OutOfRange, TrailingText, WrongKeyword};
 use bmp_text::{Lines, TextFault};
 use std::alloc::{AllocError, Global};
+use std::test::Fail;
 
 /// Version 1: type A2, the word 1 2, three elements, up to degree 0.
 const SQUARE: &str = "\
@@ -112,19 +115,46 @@ fn number_of(lines: &mut Lines, word: &[u8], low: u64, high: u64) -> Result<u64,
     Ok(number)
 }
 
-// Reads a certificate of any version, line by line.
-fn read(alloc: Global, text: &[u8]) -> Result<(), CertError> {
+// The job lines and the parts of a certificate of any version, line by line.
+fn read(alloc: Global, text: &[u8]) -> Result<(Job, Parts), CertError> {
     let mut lines = Lines::new(text);
     let version = number_of(&mut lines, b"bmp-cert", 1, 3)?;
     if version == 3 {
         number_of(&mut lines, b"lattice", 0, 1)?;
     }
     let job = read_job_lines(alloc, &mut lines)?;
-    read_parts(alloc, &mut lines, version as u8, job.prime, job.degree)?;
+    let parts = read_parts(alloc, &mut lines, version as u8, job.prime, job.degree)?;
     let mut last = lines.next_line()?;
     last.keyword(b"end")?;
     last.finish()?;
     lines.finish()?;
+    Ok((job, parts))
+}
+
+/// By row a text, its version, and whether its parts have a text in each of the versions 0 to 4: by levels there may be
+/// other numbers of covers and of vectors.
+#[test]
+fn parts_there_and_back(rt: HostRuntime) -> Result<(), Fail> {
+    let alloc = rt.alloc();
+    for (text, version, in_versions) in [
+        (SQUARE, 1, [false, true, true, true, false]),
+        (LINE_BY_LEVELS, 2, [false, false, true, true, false]),
+        (WEIGHT_LINE, 3, [false, false, true, true, false]),
+    ] {
+        let (job, parts) = read(alloc, text.as_bytes())?;
+        let mut formed = [false; 5];
+        for v in 0..5 {
+            formed[v] = parts_formed(&parts, v as u8, job.prime, job.degree);
+        }
+        assert_eq!(rt; formed, in_versions, "{text}");
+        let mut printed = Vec::new(alloc);
+        if parts_formed(&parts, version, job.prime, job.degree) {
+            push_parts(&mut printed, version, &parts)?;
+        }
+        printed.extend_from_slice(b"end\n")?;
+        let starts = printed.starts_with(b"vertices ");
+        assert!(rt; starts && text.as_bytes().ends_with(&printed), "{text}");
+    }
     Ok(())
 }
 
@@ -223,19 +253,30 @@ fn joined(alloc: Global, lines: &[&str]) -> Result<String, AllocError> {
     Ok(text)
 }
 
+// The first fault of a changed certificate of this version. `read_cert` gives the same, as far as it takes the version.
+fn first_fault(alloc: Global, version: u8, text: &str) -> Option<CertError> {
+    let bytes = text.as_bytes();
+    if version <= GREATEST_VERSION {
+        return read_cert(alloc, bytes).err();
+    }
+    read(alloc, bytes).err()
+}
+
+/// The greatest version that `read_cert` takes.
+const GREATEST_VERSION: u8 = 1;
+
 #[test]
 fn changed_lines_have_their_first_fault(rt: HostRuntime) -> Result<(), AllocError> {
     let alloc = rt.alloc();
-    for (text, faults) in [
-        (SQUARE, SQUARE_FAULTS.as_slice()),
-        (LINE_BY_LEVELS, LEVEL_FAULTS.as_slice()),
-        (WEIGHT_LINE, WEIGHT_FAULTS.as_slice()),
+    for (text, version, faults) in [
+        (SQUARE, 1, SQUARE_FAULTS.as_slice()),
+        (LINE_BY_LEVELS, 2, LEVEL_FAULTS.as_slice()),
+        (WEIGHT_LINE, 3, WEIGHT_FAULTS.as_slice()),
     ] {
         let mut lines = Vec::new(alloc);
         for line in text.lines() {
             lines.push(line)?;
         }
-        assert_eq!(rt; read(alloc, text.as_bytes()), Ok(()), "{text}");
         for change in [Cut, Doubled, Exchanged, Appended] {
             // The last line has no next one.
             let last = if change == Exchanged { 1 } else { 0 };
@@ -243,7 +284,7 @@ fn changed_lines_have_their_first_fault(rt: HostRuntime) -> Result<(), AllocErro
                 let other = joined(alloc, &changed(alloc, &lines, change, at)?)?;
                 let number = at as u64 + 1;
                 let want = fault_of(faults, change, number, lines.len() as u64);
-                let got = read(alloc, other.as_bytes()).err();
+                let got = first_fault(alloc, version, &other);
                 assert_eq!(rt;
                     got,
                     want.map(|(line, kind)| CertError::Text(TextFault { line, kind })),
