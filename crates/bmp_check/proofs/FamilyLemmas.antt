@@ -1,6 +1,8 @@
 -- Families of shaped parts: what makes them fits, and what the checks of a block by levels are given.
-use Rattle.std.proofs.Common.{◌≡◌, ◌↔◌, ℕ, suc, ◌+◌, ◌-◌, ◌<◌, ◌≤◌, ltb, ◌&&◌, List, [], ◌∷◌, length, sym, ap, subst, ◌∙◌, arith}
+use Rattle.std.proofs.Common.{◌≡◌, ◌↔◌, ℕ, suc, ◌+◌, ◌-◌, ◌<◌, ◌≤◌, ltb, ◌&&◌, List, [], ◌∷◌, ◌++◌, length, get_or, refl, sym, ap, subst, ◌∙◌, inl, inr, arith, length-append}
 use Rattle.std.specs.List.{All}
+use Rattle.std.proofs.lemmas.Bool.{cases_eq}
+use Rattle.std.proofs.lemmas.List.{get_or_append_left, get_or-append_right}
 use Rattle.std.proofs.lemmas.List.Elements.{All-weaker}
 use Rattle.bmp_graph.specs.Graph.{Graph, IsGraph, vertex_count, length_at}
 use Rattle.bmp_graph.proofs.GraphLemmas.{IsAbove-higher}
@@ -38,14 +40,14 @@ use Rattle.bmp_check.specs.PartsSheaf.{parts_sheaf}
 use Rattle.bmp_check.specs.Shaped.{IsShaped}
 use Rattle.bmp_check.specs.declared.setting.Setting.{Setting}
 use Rattle.bmp_check.specs.declared.shaped.Shaped.{Shaped}
-use Rattle.bmp_check.specs.Settings.{HoldsFamilies, AreFamilies, shaped_in, IsSet}
+use Rattle.bmp_check.specs.Settings.{no_family, HoldsFamilies, AreFamilies, shaped_in, IsSet}
 use Rattle.bmp_check.specs.ShapedViews.{written_in, graph_in, method_at, cert_in, IsWhole}
 use Rattle.bmp_check.specs.Verdicts.{HasBlock, TopPasses, CoverComparesAt}
 use Rattle.bmp_check.proofs.InputLemmas.{IsAtBlock, at_block, prime_is, has_stalks}
 use Rattle.bmp_check.proofs.CheckableLemmas.{over_field}
 use Rattle.bmp_check.proofs.Soundness.{top_degrees}
 use Rattle.bmp_check.proofs.TupleCountLemmas.{tuples_counted, has_its_block, not_greatest}
-use Rattle.bmp_check.proofs.SheafLemmas.{in_memory}
+use Rattle.bmp_check.proofs.SheafLemmas.{in_memory, as_written}
 
 module _ {G : Graph} {v : ℕ} {c : Written} {t : SizeTable} {F : Type 0} {s : SheafState F} (whole : IsShaped G v c t s) (levels : method_of v ≡ Levels) where
   at_level : (x d : ℕ) → HasBlock G c x d → IsAtBlock G Levels c s x d
@@ -55,7 +57,7 @@ module _ {G : Graph} {v : ℕ} {c : Written} {t : SizeTable} {F : Type 0} {s : S
   kept : (P : Graph → SheafData → Type 0) → P G (parts_sheaf G c) → P s.graph (sheaf_of s)
   kept = in_memory G c whole.count s whole.sheaf
 
-  pub has_top : TopPasses c → HasTop s
+  pub has_top : TopPasses G c → HasTop s
   has_top passes =
       let n : vertex_count s.graph ≡ vertex_count G = ap (λ (H : Graph). vertex_count H) whole.sheaf.graph in
       let one : (part_of c (top_vertex G)).degrees ≡ 0 ∷ [] = subst (λ k. (part_of c (k - 1)).degrees ≡ 0 ∷ []) whole.count (top_degrees c passes) in
@@ -158,6 +160,45 @@ module _
         subst (λ k. SameList (level_vertices G (suc (length_at G x))) (first_members k (list_of h)) (family_at G c x d)) (sym (number ∙ counted ∙ covers_are))
         (subst (λ (g : FamilyTable). SameList (level_vertices G (suc (length_at G x))) (first_members (family_at G c x d).count (list_of g)) (family_at G c x d)) (sym family)
         (holds (suc (length_at G x)) shorter).1)
+
+-- ---- the families that are made
+
+abbrev pub HoldsIn : (ℕ → DegreeBlock) → ℕ → FamilyTable → Graph → SheafData → Type 0
+HoldsIn blocks d f H S =
+    (k : ℕ) → k ≤ length_at H (vertex_count H - 1) →
+    ((family H S d (vertex_count H - 1) blocks k).count ≤ f.count)
+    × SameList (level_vertices H k) (first_members (family H S d (vertex_count H - 1) blocks k).count (list_of f)) (family H S d (vertex_count H - 1) blocks k)
+
+module _ {G : Graph} {v : ℕ} {c : Written} {t : SizeTable} {F : Type 0} {s : SheafState F} (whole : IsShaped G v c t s) where
+  -- of blocks b and a sheaf u that are read
+  pub families_written :
+      (b : DegreeBlocks) {u : SheafState F} (f : FamilyTable) → written_in b.given ≡ c → u ≡ s →
+      HoldsIn (block_at b) b.degree f u.graph (sheaf_of u) → HoldsFamilies G c b.degree f
+  families_written b {u = u} f is same h =
+      as_written G c whole.count s whole.sheaf (HoldsIn (λ y. block_of c y b.degree) b.degree f)
+      (subst (λ (w : SheafState F). HoldsIn (λ y. block_of c y b.degree) b.degree f w.graph (sheaf_of w)) same
+      (subst (λ (e : Written). HoldsIn (λ y. block_of e y b.degree) b.degree f u.graph (sheaf_of u)) is h))
+
+pub families_none : (G : Graph) (c : Written) → AreFamilies G c 0 []
+families_none G c = record { sized = refl; each = λ d below. absurd (omega arith) }
+
+pub families_more :
+    (G : Graph) (c : Written) (n : ℕ) (fs : List FamilyTable) (f : FamilyTable) {all : List FamilyTable} → all ≡ fs ++ f ∷ [] →
+    AreFamilies G c n fs → HoldsFamilies G c n f → AreFamilies G c (n + 1) all
+families_more G c n fs f {all = all} pushed made holds = record {
+  sized = omega (arith, ap length pushed, length-append fs (f ∷ []), made.sized);
+  each = λ d below. elim (cases_eq d n) [
+    | inl last ↦
+        let here : get_or all d no_family ≡ f =
+        ap (λ (l : List FamilyTable). get_or l d no_family) pushed ∙ get_or-append_right fs (f ∷ []) n d no_family made.sized (omega arith)
+        ∙ ap (λ k. get_or (f ∷ []) k no_family) (let none : d - n ≡ 0 = omega arith in none) in
+        subst (λ (g : FamilyTable). HoldsFamilies G c d g) (sym here) (subst (λ e. HoldsFamilies G c e f) (sym last) holds)
+    | inr other ↦
+        let here : get_or all d no_family ≡ get_or fs d no_family =
+        ap (λ (l : List FamilyTable). get_or l d no_family) pushed ∙ get_or_append_left fs (f ∷ []) no_family d (omega (arith, made.sized, below, other)) in
+        subst (λ (g : FamilyTable). HoldsFamilies G c d g) (sym here) (made.each d (omega (arith, below, other)))
+  ];
+}
 
 -- what is set holds of the parts as they are read
 module _ {s : Setting} {u : Shaped} (same : u ≡ shaped_in s) (set : IsSet s) where

@@ -112,7 +112,7 @@ module _ (most : ℕ) where
 
 -- ---- a vertex and a block
 
-by_levels : Method → Bool
+abbrev by_levels : Method → Bool
 by_levels Spaces = false
 by_levels Levels = true
 

@@ -1,7 +1,9 @@
 -- Blocks of shaped parts by number: that all pass, and that one is the first that doesn't.
-use Rattle.std.proofs.Common.{◌≡◌, ℕ, ◌<◌, ◌≤◌, refl, ap, ap₂, ◌∙◌}
+use Rattle.std.proofs.Common.{◌≡◌, ℕ, ◌<◌, ◌≤◌, refl, ap, ap₂, subst, ◌∙◌}
 use Rattle.bmp_graph.specs.Graph.{Graph, vertex_count}
+use Rattle.bmp_cert.specs.Counts.{Written}
 use Rattle.bmp_check.specs.declared.given.Given.{Given}
+use Rattle.bmp_check.specs.declared.method.Method.{Method}
 use Rattle.bmp_check.specs.declared.refusal.Refusal.{Refusal}
 use Rattle.bmp_check.specs.declared.shaped.Shaped.{Shaped}
 use Rattle.bmp_check.specs.BlockOrder.{block_count, block_vertex, block_degree}
@@ -18,6 +20,20 @@ counted_blocks same graph given vertices counted =
     counted
     ∙ ap₂ (λ (a b : ℕ). block_count a b) (vertices ∙ ap (λ (H : Graph). vertex_count H) graph) (ap (λ (e : Given). e.degree) given)
     ∙ ap (λ (u : Shaped). block_count (vertex_count (graph_in u)) (cert_in u).degree) same
+
+-- the block of a number as it is read: u are the parts, of so many vertices and degrees, and x and d those of the block
+module _
+    {s u : Shaped} {n D x d : ℕ} (i : ℕ) (same : u ≡ s) (vertices : n ≡ vertex_count (graph_in u)) (degree : D ≡ (cert_in u).degree)
+    (x_is : x ≡ block_vertex n D i) (d_is : d ≡ block_degree D i) where
+  pub at_number :
+      (P : Graph → Method → Written → ℕ → ℕ → Type 0) → P (graph_in u) (method_at u) (cert_in u) x d →
+      P (graph_in s) (method_at s) (cert_in s) (block_vertex (vertex_count (graph_in s)) (cert_in s).degree i) (block_degree (cert_in s).degree i)
+  at_number P h =
+      subst (λ (w : Shaped). P (graph_in w) (method_at w) (cert_in w) (block_vertex (vertex_count (graph_in w)) (cert_in w).degree i) (block_degree (cert_in w).degree i)) same
+      (subst (λ k. P (graph_in u) (method_at u) (cert_in u) (block_vertex k (cert_in u).degree i) (block_degree (cert_in u).degree i)) vertices
+      (subst (λ E. P (graph_in u) (method_at u) (cert_in u) (block_vertex n E i) (block_degree E i)) degree
+      (subst (λ e. P (graph_in u) (method_at u) (cert_in u) (block_vertex n D i) e) d_is
+      (subst (λ y. P (graph_in u) (method_at u) (cert_in u) y d) x_is h))))
 
 module _ (s : Shaped) where
   abbrev n : ℕ

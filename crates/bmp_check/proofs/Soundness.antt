@@ -119,7 +119,7 @@ is_sound Spaces base = record {
   lifted = λ x d within other most. block_lifts base x d (omega arith, most);
   minimal = λ x d within other most. block_is_minimal base x d (omega arith, most);
 }
-is_sound Levels {G} {c} base =
+is_sound Levels {G = G} {c = c} base =
     passed_by_levels G (parts_sheaf G c) c.degree (top_vertex G) (block_of c) base.over base.small base.is_top
     (record {
       top_stalk = base.top_stalk;

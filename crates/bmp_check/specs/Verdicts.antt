@@ -12,7 +12,7 @@
 --   ShapePassesAt                 no size of a vertex and degree fails
 --   Passes G v c                  no comparison fails at all, in evidence of version v
 --   IsFirstRefusal G v c r        r is the first that fails: the number of vertices, then the shapes of all blocks, then the top, then the blocks
-use Rattle.std.specs.Prelude.{◌≡◌, ℕ, ◌+◌, ◌-◌, ◌<◌, ◌≤◌, ◌⊎◌, nat_lt, if◌then◌else◌, [], ◌∷◌, Some, None, length, slice_index}
+use Rattle.std.specs.Prelude.{◌≡◌, ℕ, ◌+◌, ◌-◌, ◌<◌, ◌≤◌, ◌⊎◌, nat_lt, if◌then◌else◌, List, [], ◌∷◌, Some, None, length, slice_index}
 use Rattle.bmp_graph.specs.Graph.{Graph, vertex_count}
 use Rattle.bmp_linear.specs.declared.fault.RowFault.{RowFault}
 use Rattle.bmp_linear.specs.Faults.{AllPass, IsFirstFailure}

@@ -23,7 +23,7 @@ pub struct Setting<'a> {
 fn families_of(alloc: Global, s: &Shaped) -> Result<Vec<Family>, AllocError>
     requires whole { IsWhole s.now }
     requires levels { method_at s.now ≡ Levels }
-    requires top { TopPasses (cert_in s.now) }
+    requires top { TopPasses (graph_in s.now) (cert_in s.now) }
     ensures { IfOk result (λ families. AreFamilies (graph_in s.now) (cert_in s.now) ((cert_in s.now).degree + 1) families.items) }
 {
     let given = *s.given();
@@ -39,9 +39,9 @@ impl<'a> Setting<'a> {
     /// Shaped parts whose greatest vertex passes, with their families.
     pub fn of(alloc: Global, shaped: Shaped<'a>) -> Result<Setting<'a>, AllocError>
         requires whole { IsWhole shaped }
-        requires top { TopPasses (cert_in shaped) }
+        requires top { TopPasses (graph_in shaped) (cert_in shaped) }
         ensures set { IfOk result IsSet }
-        ensures shaped { IfOk result (λ s. shaped_in s ≡ shaped) }
+        ensures shaped { IfOk result (λ s. shaped_in s ≡ shaped.entry) }
     {
         let families = match shaped.given().method() {
             Method::Spaces => Vec::new(alloc),

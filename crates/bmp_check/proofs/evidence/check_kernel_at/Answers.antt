@@ -1,4 +1,4 @@
-use Rattle.std.proofs.Common.{ℕ, ◌∙◌, sym, ap, subst}
+use Rattle.std.proofs.Common.{ℕ, length, ◌∙◌, sym, ap, subst}
 use Rattle.bmp_math.specs.Matrices.{Matrix, NumbersBelow}
 use Rattle.bmp_linear.specs.Evidence.{EvidenceBelow}
 use Rattle.bmp_linear.specs.Faults.{AllPass, IsFirstFailure}
