@@ -1,4 +1,5 @@
--- The values of families are below the prime where those of the blocks are; so what has their values are tuples to compare with.
+-- The values of families are below the prime where those of the blocks are; so what has their values are tuples to
+-- compare with.
 use Rattle.std.proofs.Common.{◌≡◌, ℕ, zero, suc, ◌-◌, ◌<◌, ◌≤◌, Bool, true, false, refl, List, [], length, get_or}
 use Rattle.std.proofs.Common.{cond, eqb, leb, subst, sym, ◌∙◌, inl, inr, arith}
 use Rattle.std.specs.Prelude.{All}
@@ -60,7 +61,8 @@ module _ {G : Graph} {top : ℕ} {block : ℕ → DegreeBlock} (two : 2 ≤ G.pr
         (λ from. vector_below (block y).kernel.basis G.prime (j - list.count - new_start G k block y) c
         (omega (arith, two)) (below.basis y inside (omega (arith, here, short))))
         (λ before. omega (arith, two)))
-        (λ is_old. vector_below (block y).cover.covers G.prime j c (omega (arith, two)) (below.covers y inside (omega (arith, here, short)))))
+        (λ is_old. vector_below (block y).cover.covers G.prime j c (omega (arith, two))
+        (below.covers y inside (omega (arith, here, short)))))
     | inr other ↦
         subst (λ (v : ℕ → ℕ). v c < G.prime) (sym (off_level G k block list j y other))
         (either_below (leb list.count j) (λ i. 0) (list.value j y) G.prime c (λ new. omega (arith, two))
@@ -78,7 +80,8 @@ module _ {G : Graph} {top : ℕ} {block : ℕ → DegreeBlock} (two : 2 ≤ G.pr
         (down_below n (omega arith)) j y c inside
 
 pub families_are_below : FamiliesAreBelow
-families_are_below G F d top block two below k j y c inside = down_below two below F d (length_at G top - k) (omega arith) j y c inside
+families_are_below G F d top block two below k j y c inside =
+    down_below two below F d (length_at G top - k) (omega arith) j y c inside
 
 -- what has the values of the family over the longer vertices
 pub has_tuples :

@@ -63,7 +63,7 @@ module _ (width column : ℕ) (inside : column < width) (old : List ℕ) where
               ∙ cond-true {A = ℕ} (eqb place c) value (number_at (take i v) c) (eq-eqb place c same))
           | inr other ↦
               get_or-set_other ns at (c * width + column) value 0
-              (λ place_same. other (sym (rows_apart width c (get_or v i e).place column column inside inside place_same)))
+              (λ same. other (sym (rows_apart width c (get_or v i e).place column column inside inside same)))
               ∙ h.own c
               ∙ sym (number_at_more v i c e rising below
               ∙ cond-false {A = ℕ} (eqb place c) value (number_at (take i v) c) (ne_eqb place c other))
@@ -100,6 +100,6 @@ module _ (width start : ℕ) (number : ℕ → ℕ → ℕ) (old : List ℕ) whe
           one.others c (start + t) (omega arith) (λ same. other (omega arith)) ∙ h.own t c (omega arith)
     ];
     others = λ c j below apart.
-        one.others c j below (λ same. elim apart [ | inl before ↦ omega arith | inr after ↦ omega arith ])
-        ∙ h.others c j below (elim apart [ | inl before ↦ inl before | inr after ↦ inr (omega arith) ]);
+        one.others c j below (λ same. elim apart [ inl before ↦ omega arith | inr after ↦ omega arith ])
+        ∙ h.others c j below (elim apart [ inl before ↦ inl before | inr after ↦ inr (omega arith) ]);
   }

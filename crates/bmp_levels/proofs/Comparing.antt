@@ -28,10 +28,13 @@ pub record SameTuples (G : Graph) (F : SheafData) (U : ℕ → Type 0) (d : ℕ)
       (j y : ℕ) → j < b.count → U y →
       SameElement G.prime G.rank (F.degrees y) d (tuples_in G F d a j y) (tuples_in G F d b j y)
 
-pub tuples_turned : {G : Graph} {F : SheafData} {U : ℕ → Type 0} {d : ℕ} {a b : TupleList} → SameTuples G F U d a b → SameTuples G F U d b a
+pub tuples_turned :
+    {G : Graph} {F : SheafData} {U : ℕ → Type 0} {d : ℕ} {a b : TupleList} → SameTuples G F U d a b →
+    SameTuples G F U d b a
 tuples_turned same = record {
   count = sym same.count;
-  value = λ j y is_member inside g t has m is. sym (same.value j y (omega (arith, is_member, same.count)) inside g t has m is);
+  value = λ j y is_member inside g t has m is.
+      sym (same.value j y (omega (arith, is_member, same.count)) inside g t has m is);
 }
 
 pub same_list_tuples :

@@ -61,7 +61,8 @@ module _ (G : Graph) (d : ℕ) (block : ℕ → DegreeBlock) where
       (at : x + suc b ≡ vertex_count G) where
     -- a vertex as long as the next greater one, or one that is shorter
     pub count_is :
-        (number : ℕ) → (x + 1 < vertex_count G → length_at G x ≡ length_at G (x + 1) → number ≡ get_or counts (x + 1) 0) →
+        (number : ℕ) →
+        (x + 1 < vertex_count G → length_at G x ≡ length_at G (x + 1) → number ≡ get_or counts (x + 1) 0) →
         ((x + 1 < vertex_count G → length_at G x ≢ length_at G (x + 1)) → number ≡ sum) →
         number ≡ member_count G d (vertex_count G - 1) block (suc (length_at G x))
     count_is number same shorter = elim (cases_lt (x + 1) (vertex_count G)) [
@@ -83,11 +84,13 @@ module _ (G : Graph) (d : ℕ) (block : ℕ → DegreeBlock) where
             (λ y below there.
             let more : x + 1 < vertex_count G = omega (arith, below, there, at) in
             let next : length_at G x ≤ length_at G (x + 1) = is.lengths_rise x (x + 1) (omega arith) more in
-            let high : length_at G (x + 1) ≤ length_at G y = is.lengths_rise (x + 1) y (omega (arith, there, at)) below in
+            let high : length_at G (x + 1) ≤ length_at G y =
+            is.lengths_rise (x + 1) y (omega (arith, there, at)) below in
             let other = less more in
             omega (arith, next, high, other))
             (λ y before.
-            let low : length_at G y ≤ length_at G x = is.lengths_rise y x (omega (arith, before, at)) (omega (arith, at)) in
+            let low : length_at G y ≤ length_at G x =
+            is.lengths_rise y x (omega (arith, before, at)) (omega (arith, at)) in
             omega (arith, low))
 
     pub counted_more :

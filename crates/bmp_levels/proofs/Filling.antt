@@ -139,7 +139,8 @@ module _ {A : Type 0} {s : SheafState A} {k d : ℕ} {block : ℕ → DegreeBloc
               ∙ added.is_run.size ∙ ap (stalk_size s.graph (sheaf_of s) d) (sym same)
           | inr other ↦
               ap (λ (r : RunTable). r.size)
-              (run_stays added z (omega (arith, below, h.vertices)) (omega (arith, there, at, other, h.vertices, h.runs)))
+              (run_stays added z (omega (arith, below, h.vertices))
+              (omega (arith, there, at, other, h.vertices, h.runs)))
               ∙ h.sizes z below (omega (arith, there, at, other))
         ];
         values = λ j z c below there. elim (cases_eq z y) [
@@ -150,7 +151,8 @@ module _ {A : Type 0} {s : SheafState A} {k d : ℕ} {block : ℕ → DegreeBloc
               ∙ ap (λ n. extended_value s.graph k block (list_of f) j n c) (sym same)
           | inr other ↦
               ap (λ r. run_value r j c)
-              (run_stays added z (omega (arith, below, h.vertices)) (omega (arith, there, at, other, h.vertices, h.runs)))
+              (run_stays added z (omega (arith, below, h.vertices))
+              (omega (arith, there, at, other, h.vertices, h.runs)))
               ∙ h.values j z c below (omega (arith, there, at, other))
         ];
       }

@@ -17,12 +17,15 @@ use Rattle.bmp_levels.proofs.ExtendedIndependence.{are_independent}
 
 module _ {G : Graph} {F : SheafData} {k d : ℕ} {block : ℕ → DegreeBlock} {old new : TupleList}
     (same : SameList (level_vertices G k) new (sized (stalk_size G F d) (extended G k block old))) where
-  carried : ExtendsBy G F k d block old → SameTuples G F (level_vertices G k) d (sized (stalk_size G F d) (extended G k block old)) new
+  carried :
+      ExtendsBy G F k d block old →
+      SameTuples G F (level_vertices G k) d (sized (stalk_size G F d) (extended G k block old)) new
   carried by = tuples_turned (same_list_tuples by.wide same (λ y inside. refl))
 
   pub keeps_bases : KeepsBases G F k d block old new
   keeps_bases = record {
     sections = λ by sections. sections_carry by.over by.wide (carried by) (are_sections by sections);
-    spanning = λ by sections spanning. spanning_carries by.over by.wide (carried by) (are_spanning by sections spanning);
+    spanning = λ by sections spanning.
+        spanning_carries by.over by.wide (carried by) (are_spanning by sections spanning);
     independent = λ by independent. independence_carries by.over by.wide (carried by) (are_independent by independent);
   }

@@ -41,7 +41,8 @@ module _ (before : ℕ) (covers basis : List (List Entry)) (j : ℕ) where
   pub joined_covers : (c : ℕ) → j < before → joined_value before covers basis j c ≡ vector_at covers j c
   joined_covers c below =
       ap (λ (v : ℕ → ℕ). v c)
-      (cond-false {A = ℕ → ℕ} (leb before j) (vector_at basis (j - before)) (vector_at covers j) (lt-leb before j below))
+      (cond-false {A = ℕ → ℕ} (leb before j) (vector_at basis (j - before)) (vector_at covers j)
+      (lt-leb before j below))
 
   pub joined_basis : (c : ℕ) → before ≤ j → joined_value before covers basis j c ≡ vector_at basis (j - before) c
   joined_basis c from =

@@ -37,7 +37,8 @@ top_count r d degrees one =
     )
 
 -- the one longest vertex
-pub only_top : (G : Graph) (top y : ℕ) → IsTopVertex G top → y < vertex_count G → length_at G top ≤ length_at G y → y ≡ top
+pub only_top :
+    (G : Graph) (top y : ℕ) → IsTopVertex G top → y < vertex_count G → length_at G top ≤ length_at G y → y ≡ top
 only_top G top y is_top below long = elim (cases_eq y top) [
   | inl same ↦ same
   | inr other ↦ absurd (let short = is_top.longest y below other in omega arith)

@@ -21,9 +21,12 @@ use Rattle.bmp_levels.proofs.RunLemmas.{joined_basis}
 use Rattle.bmp_levels.proofs.FamilyRuns.{has_from, one_run_more, run_next}
 
 pub units_more :
-    (n : ℕ) (vs : List (List Entry)) → AreUnits n vs → AreUnits (n + 1) (vs ++ (record { place = n; value = 1 } ∷ []) ∷ [])
+    (n : ℕ) (vs : List (List Entry)) → AreUnits n vs →
+    AreUnits (n + 1) (vs ++ (record { place = n; value = 1 } ∷ []) ∷ [])
 units_more n vs h = record {
-  count = (let more : length (vs ++ (record { place = n; value = 1 } ∷ []) ∷ []) ≡ length vs + 1 = simp length-append refl in
+  count =
+      (let more : length (vs ++ (record { place = n; value = 1 } ∷ []) ∷ []) ≡ length vs + 1 =
+      simp length-append refl in
       omega (arith, more, h.count));
   each = λ i below. elim (cases_eq i n) [
     | inl last ↦
@@ -79,7 +82,9 @@ module _ {A : Type 0} {s : SheafState A} {d size : ℕ} {units : List (List Entr
   is_only : (y : ℕ) → level_vertices s.graph (length_at s.graph top) y → y ≡ top
   is_only y inside = only_top s.graph top y made.has.is_top inside.0 inside.1
 
-  run_size : (y : ℕ) → level_vertices s.graph (length_at s.graph top) y → (run_at new y).size ≡ stalk_size s.graph (sheaf_of s) d y
+  run_size :
+      (y : ℕ) → level_vertices s.graph (length_at s.graph top) y →
+      (run_at new y).size ≡ stalk_size s.graph (sheaf_of s) d y
   run_size y inside =
       ap (λ z. (run_at new z).size) (is_only y inside) ∙ ap (λ (r : RunTable). r.size) run_top ∙ made.added.is_run.size
       ∙ made.size_is ∙ sym size_top ∙ ap (stalk_size s.graph (sheaf_of s) d) (sym (is_only y inside))
@@ -94,7 +99,9 @@ module _ {A : Type 0} {s : SheafState A} {d size : ℕ} {units : List (List Entr
     sizes = run_size;
   }
 
-  pub top_same : SameList (level_vertices s.graph (length_at s.graph top)) (list_of new) (top_family s.graph (sheaf_of s) d top)
+  pub top_same :
+      SameList (level_vertices s.graph (length_at s.graph top)) (list_of new)
+      (top_family s.graph (sheaf_of s) d top)
   top_same = record {
     count = omega (arith, made.added.count, made.counted, made.are.count, made.size_is);
     has = λ y inside.

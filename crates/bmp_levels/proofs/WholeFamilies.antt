@@ -68,7 +68,8 @@ module _ {A : Type 0} {s : SheafState A} {d : ℕ} {block : ℕ → DegreeBlock}
   next_shorter = elim (cases_lt k made.level) [
     | inl short ↦ short
     | inr long ↦
-        absurd (let there = made.holds.has next (omega (arith, few), omega (arith, long, k_is)) in omega (arith, there, few))
+        absurd (let there = made.holds.has next (omega (arith, few), omega (arith, long, k_is)) in
+        omega (arith, there, few))
   ]
 
   -- and no vertex is longer than that, and shorter than what is there
@@ -93,8 +94,8 @@ module _ {A : Type 0} {s : SheafState A} {d : ℕ} {block : ℕ → DegreeBlock}
       SameList (level_vertices s.graph (suc k)) (list_of f)
       (family s.graph (sheaf_of s) d (vertex_count s.graph - 1) block (suc k))
   next_same =
-      family_over_gap s.graph (sheaf_of s) d (vertex_count s.graph - 1) block (suc k) made.level (list_of f) next_shorter
-      made.below gap made.same
+      family_over_gap s.graph (sheaf_of s) d (vertex_count s.graph - 1) block (suc k) made.level (list_of f)
+      next_shorter made.below gap made.same
 
   short : k < length_at s.graph (vertex_count s.graph - 1)
   short = let less = next_shorter in omega (arith, less, made.below)

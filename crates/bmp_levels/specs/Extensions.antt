@@ -1,11 +1,11 @@
 -- What an extension in memory is given, and what it gives, of a sheaf in memory. In the order to read:
 --   IsFirst G k first                the vertices of length at least k are those from this number on
---   HasTop s                         the greatest vertex alone has the greatest length, and its stalk has one generator,
---                                    of degree 0
+--   HasTop s                         the greatest vertex alone has the greatest length, and its stalk has one
+--                                    generator, of degree 0
 --   HoldsLevel s k d f               the family has the values of degree d at the vertices of length at least k, and at
 --                                    no others
---   BlockFits s d count x block      the stalk at x is there, and the block has at most `count` covers, and these and its
---                                    basis fit the stalk
+--   BlockFits s d count x block      the stalk at x is there, and the block has at most `count` covers, and these and
+--                                    its basis fit the stalk
 --   LevelFits s k d count has block  that is so of a block at each vertex of length k
 --   AllFit s d has block             and of one at each vertex but the longest, for the families of these blocks
 --   IsExtension s k d block f new    new is the extension of f by the blocks of the vertices of length k

@@ -29,7 +29,8 @@ fn longer_count(graph: &MomentGraph, x: u32, counts: &[u64], sum: u64) -> u64
     requires vertices { length counts.now ≡ vertex_count graph.now }
     ensures same { x + 1 < vertex_count graph.now → length_at graph.now x ≡ length_at graph.now (x + 1)
         → result ≡ slice_index counts.now (x + 1) }
-    ensures shorter { (x + 1 < vertex_count graph.now → length_at graph.now x ≢ length_at graph.now (x + 1)) → result ≡ sum }
+    ensures shorter { (x + 1 < vertex_count graph.now → length_at graph.now x ≢ length_at graph.now (x + 1))
+        → result ≡ sum }
 {
     let vertices = graph.vertices();
     let next = x + 1;
@@ -40,8 +41,8 @@ fn longer_count(graph: &MomentGraph, x: u32, counts: &[u64], sum: u64) -> u64
     }
 }
 
-/// For each vertex, how many members the family over the longer vertices has, in degree `d`: one for each monomial, and one
-/// for each basis vector of a longer vertex but the longest.
+/// For each vertex, how many members the family over the longer vertices has, in degree `d`: one for each monomial,
+/// and one for each basis vector of a longer vertex but the longest.
 pub fn longer_counts<B: LevelBlocks>(
     alloc: Global,
     graph: &MomentGraph,

@@ -25,9 +25,9 @@ fn first_of_level(graph: &MomentGraph, k: u32) -> u32
 }
 
 impl Family {
-    /// The extension of a family over the vertices longer than `k` by the blocks of the vertices of length `k`: first the old
-    /// members, with the covers as their values at these vertices, and then for each of these vertices, from the greatest
-    /// number down, one for each basis vector, with 0 at all other vertices.
+    /// The extension of a family over the vertices longer than `k` by the blocks of the vertices of length `k`: first
+    /// the old members, with the covers as their values at these vertices, and then for each of these vertices, from
+    /// the greatest number down, one for each basis vector, with 0 at all other vertices.
     ///
     /// Wants memory also where there would be 2^32 members or more.
     pub fn extend_level<F: Field, B: LevelBlocks>(

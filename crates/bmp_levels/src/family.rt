@@ -9,8 +9,8 @@ use bmp_linear::Vectors;
 use std::alloc::{AllocError, Global};
 use std::marker::Model;
 
-/// A family: a list of tuples over the vertices of a level, in one degree. At each vertex it keeps, for each coordinate,
-/// a run of bytes, one for each member that was there when the vertex was added.
+/// A family: a list of tuples over the vertices of a level, in one degree. At each vertex it keeps, for each
+/// coordinate, a run of bytes, one for each member that was there when the vertex was added.
 ///
 /// Vertices are added from the greatest down, and nothing that stands is changed by it. So the family of all vertices
 /// serves every level: its first members are the family of that level.
@@ -77,8 +77,8 @@ impl Family {
         &self.runs[(self.vertices - 1 - y) as usize]
     }
 
-    /// Adds the next vertex, of `size` coordinates: the first members get the covers as their values there, the others 0, and
-    /// for each vector of the basis a new member comes, with that value there.
+    /// Adds the next vertex, of `size` coordinates: the first members get the covers as their values there, the others
+    /// 0, and for each vector of the basis a new member comes, with that value there.
     ///
     /// Wants memory also where there would be 2^32 members. Then the family is as it was.
     pub(crate) fn add_vertex(

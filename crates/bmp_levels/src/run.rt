@@ -37,8 +37,8 @@ fn zeros(alloc: Global, len: usize) -> Result<Vec<u8>, AllocError>
 }
 
 impl Run {
-    /// The values at a vertex with `size` coordinates: the covers are those of the first members, and behind the `before`
-    /// members that there are come the vectors of the basis.
+    /// The values at a vertex with `size` coordinates: the covers are those of the first members, and behind the
+    /// `before` members that there are come the vectors of the basis.
     pub(crate) fn of(
         alloc: Global,
         size: u32,

@@ -27,8 +27,8 @@ fn units(alloc: Global, n: u32) -> Result<Vectors, AllocError>
 }
 
 impl Family {
-    /// The first family of degree `d`, over the greatest vertex: one member for each monomial, with that monomial as its
-    /// value. The greatest vertex is the one longest, and its stalk has one generator, of degree 0.
+    /// The first family of degree `d`, over the greatest vertex: one member for each monomial, with that monomial as
+    /// its value. The greatest vertex is the one longest, and its stalk has one generator, of degree 0.
     pub fn top<F: Field>(alloc: Global, sheaf: &Sheaf<F>, d: u32) -> Result<Family, AllocError>
         requires degree { d ≤ sheaf.now.degree }
         requires top { HasTop sheaf.now }

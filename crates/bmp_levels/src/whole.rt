@@ -24,8 +24,8 @@ fn next_length(graph: &MomentGraph, family: &Family) -> u32
 }
 
 impl Family {
-    /// The family over all vertices, made level by level from blocks of all vertices but the greatest. Its first members
-    /// are, over each level, the family of that level.
+    /// The family over all vertices, made level by level from blocks of all vertices but the greatest. Its first
+    /// members are, over each level, the family of that level.
     ///
     /// Wants memory also where there would be 2^32 members or more.
     pub fn of_blocks<F: Field, B: LevelBlocks>(

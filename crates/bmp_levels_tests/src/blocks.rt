@@ -10,6 +10,7 @@ use std::alloc::{AllocError, Global};
 pub type Entries = &'static [(u32, u8)];
 
 /// The blocks of the vertices from 0 on.
+#[derive(Drop)]
 pub struct VertexBlocks {
     pub blocks: Blocks,
 }

@@ -12,10 +12,11 @@ use bmp_levels::{Family, longer_counts};
 use bmp_sections::Sections;
 use bmp_sheaf::Sheaf;
 use std::alloc::{AllocError, Global};
+use std::process::Abort;
 use std::test::Fail;
 
-/// A degree, the covers and the basis vectors by vertex, the numbers of members over the longer vertices, and by vertex the
-/// values of all members: one row for each coordinate.
+/// A degree, the covers and the basis vectors by vertex, the numbers of members over the longer vertices, and by
+/// vertex the values of all members: one row for each coordinate.
 struct Row {
     degree: u32,
     blocks: &'static [(&'static [Entries], &'static [Entries])],
@@ -119,9 +120,14 @@ fn values_at(
 }
 
 /// Makes the families of the constant sheaf from the rows' blocks, and compares them with the rows' values.
-fn compare(rt: HostRuntime, graph: &MomentGraph, rows: &[Row]) -> Result<(), Fail> {
-    let alloc = rt.alloc();
-    let sheaf = constant(&rt, alloc, graph)?;
+fn compare(
+    rt: &impl Abort,
+    alloc: Global,
+    graph: &MomentGraph,
+    rows: &[Row],
+) -> Result<(), Fail> {
+    let sheaf = constant(rt, alloc, graph)?;
+    assert!(rt; sheaf.pushed() == sheaf.graph().vertices());
     assert!(rt; has_top(&sheaf));
     for row in rows {
         let d = row.degree;
@@ -146,11 +152,11 @@ fn compare(rt: HostRuntime, graph: &MomentGraph, rows: &[Row]) -> Result<(), Fai
 #[test]
 fn families_of_the_line(rt: HostRuntime) -> Result<(), Fail> {
     let graph = line(rt.alloc())?;
-    compare(rt, &graph, &LINE)
+    compare(&rt, rt.alloc(), &graph, &LINE)
 }
 
 #[test]
 fn families_of_the_square(rt: HostRuntime) -> Result<(), Fail> {
     let graph = square(rt.alloc())?;
-    compare(rt, &graph, &SQUARE)
+    compare(&rt, rt.alloc(), &graph, &SQUARE)
 }

@@ -3,6 +3,7 @@ ghost use Rattle.std.specs.Prelude.{◌≡◌, ℕ, suc, ◌-◌, ◌<◌, ◌�
 ghost use Rattle.bmp_graph.specs.Graph.{vertex_count, length_at};
 ghost use Rattle.bmp_linear.specs.SparseVectors.{FitsBelow};
 ghost use Rattle.bmp_sheaf.specs.States.{IsThere};
+ghost use Rattle.bmp_cover.specs.BradenMacPherson.{IsTopVertex};
 ghost use Rattle.bmp_levels.specs.Families.{member_count};
 ghost use Rattle.bmp_levels.specs.Extensions.{HasTop, BlockFits, AllFit};
 ghost use Rattle.bmp_levels_tests.specs.VertexBlocks.{block_in};
@@ -71,7 +72,8 @@ fn block_fits(
     fit_below(&block.cover.covers, size as u32) && fit_below(&block.kernel.basis, size as u32)
 }
 
-/// Whether that is so at each vertex but the greatest, where `counts` has the numbers of members over the longer vertices.
+/// Whether that is so at each vertex but the greatest, where `counts` has the numbers of members over the longer
+/// vertices.
 pub fn all_fit(
     sheaf: &Sheaf<PrimeField>,
     d: u32,

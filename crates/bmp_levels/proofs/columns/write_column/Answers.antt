@@ -10,5 +10,9 @@ pub loop-entry-preserved : goal.loop-entry-preserved
 loop-entry-preserved c =
     column_more c.args.width c.args.column c.requires.column c.args.numbers.now c.args.entries.now c.loop-entry.numbers
     c.loop-entry.entry-index _ c.requires.sparse.rising c.loop-entry-test.true
-    (omega (arith, c.requires.room c.loop-entry.entry-index (record { place = 0; value = 0 }) c.loop-entry-test.true, c.loop-entry.invariant.sized))
+    (omega (
+      arith,
+      c.requires.room c.loop-entry.entry-index (record { place = 0; value = 0 }) c.loop-entry-test.true,
+      c.loop-entry.invariant.sized,
+    ))
     c.loop-entry.invariant

@@ -15,7 +15,8 @@ loop-b-init g c =
 pub loop-b-preserved : goal.loop-b-preserved
 loop-b-preserved g c =
     let first : IsFirst c.args.sheaf.now.graph c.args.k c.first_of_level-first.result =
-    subst (λ G. IsFirst G c.args.k c.first_of_level-first.result) c.graph-graph.ensures.graph c.first_of_level-first.ensures in
+    subst (λ G. IsFirst G c.args.k c.first_of_level-first.result) c.graph-graph.ensures.graph
+    c.first_of_level-first.ensures in
     let count : c.vertices-vertices.result ≡ vertex_count c.args.sheaf.now.graph =
     c.vertices-vertices.ensures.count ∙ ap vertex_count c.graph-graph.ensures.graph in
     let y = c.vertices-vertices.result - 1 - c.loop-b.b in
@@ -32,7 +33,8 @@ pub returns : goal.returns
 returns g c =
     let block = g.B.LevelBlocks.block c.args.blocks.now in
     let first : IsFirst c.args.sheaf.now.graph c.args.k c.first_of_level-first.result =
-    subst (λ G. IsFirst G c.args.k c.first_of_level-first.result) c.graph-graph.ensures.graph c.first_of_level-first.ensures in
+    subst (λ G. IsFirst G c.args.k c.first_of_level-first.result) c.graph-graph.ensures.graph
+    c.first_of_level-first.ensures in
     let count : c.vertices-vertices.result ≡ vertex_count c.args.sheaf.now.graph =
     c.vertices-vertices.ensures.count ∙ ap vertex_count c.graph-graph.ensures.graph in
     let filled : IsFilled c.args.sheaf.now c.args.k c.args.d (g.B.LevelBlocks.block c.args.blocks.now) c.args.self

@@ -24,7 +24,8 @@ returns g c =
       counted = ap (λ (f : FamilyTable). f.count) c.in_ok-family.ensures;
       added =
           subst
-          (λ (vs : List (List Entry)). IsRunAdded c.count-size.result vs c.in_ok-units.field-0 none c.add_vertex.new.self)
+          (λ (vs : List (List Entry)). IsRunAdded c.count-size.result vs c.in_ok-units.field-0 none
+          c.add_vertex.new.self)
           c.new-none.ensures c.in_ok-add_vertex.ensures.added;
     } in
     record { holds = top_holds made; family = top_same made }
