@@ -112,19 +112,25 @@ def longest_word(cartan):
 # ---- job texts
 
 
-def job_text(cartan, prime, word, degree):
-    """A job text. Nothing is tested: the program does that."""
-    lines = [["bmp-job", 1], ["rank", len(cartan)], *(["row", *row] for row in cartan)]
+LATTICES = ["root", "weight"]
+
+
+def job_text(cartan, prime, word, degree, lattice=None):
+    """A job text. The lattice is None (plain), "root" or "weight". Nothing is tested: the program does that."""
+    lines = [["bmp-job", 1]] if lattice is None else [["bmp-job", 2], ["lattice", LATTICES.index(lattice)]]
+    lines += [["rank", len(cartan)], *(["row", *row] for row in cartan)]
     lines += [["prime", prime], ["word", len(word), *word], ["degree", degree], ["end"]]
     return "".join(" ".join(map(str, line)) + "\n" for line in lines)
 
 
 def job_of(text):
-    """The job in a job text or a certificate text: a dictionary with cartan, prime, word, degree."""
+    """The job in a job text or a certificate text: a dictionary with cartan, prime, word, degree, lattice."""
     lines = text.split("\n", 32)
+    lattice = LATTICES[int(lines.pop(1).split(" ")[1])] if lines[1].startswith("lattice ") else None
     rank = int(lines[1].split(" ")[1])
     rows = [[int(n) for n in line.split(" ")[1:]] for line in lines[2 : 5 + rank]]
-    return {"cartan": rows[:rank], "prime": rows[rank][0], "word": rows[rank + 1][1:], "degree": rows[rank + 2][0]}
+    job = {"cartan": rows[:rank], "prime": rows[rank][0], "word": rows[rank + 1][1:], "degree": rows[rank + 2][0]}
+    return {**job, "lattice": lattice}
 
 
 # ---- the program

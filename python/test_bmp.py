@@ -86,9 +86,14 @@ class Texts(unittest.TestCase):
     def test_job(self):
         text = bmp.job_text(bmp.cartan_matrix("A", 1), 2, [1], 0)
         self.assertEqual(text, (EXAMPLES / "line.job").read_text())
-        self.assertEqual(bmp.job_of(text), {"cartan": [[2]], "prime": 2, "word": [1], "degree": 0})
+        job = {"cartan": [[2]], "prime": 2, "word": [1], "degree": 0, "lattice": None}
+        self.assertEqual(bmp.job_of(text), job)
+        text = bmp.job_text(bmp.cartan_matrix("A", 1), 2, [1], 0, "weight")
+        self.assertEqual(text, (EXAMPLES / "a1-weight-p2.job").read_text())
+        self.assertEqual(bmp.job_of(text), {**job, "lattice": "weight"})
         text = (EXAMPLES / "square.cert").read_text()
-        self.assertEqual(bmp.job_of(text), {"cartan": [[2, -1], [-1, 2]], "prime": 3, "word": [1, 2], "degree": 0})
+        job = {"cartan": [[2, -1], [-1, 2]], "prime": 3, "word": [1, 2], "degree": 0, "lattice": None}
+        self.assertEqual(bmp.job_of(text), job)
 
     def test_faults(self):
         for text, fields in FAULTS:

@@ -1,11 +1,15 @@
--- The job lines as a pair of a reader and a printed form.
-use Rattle.std.proofs.Common.{◌≡◌, ℕ, pos, negsuc, ◌≤◌, List, [], ◌∷◌, ◌++◌, refl, sym, ap, ◌∙◌, arith, rules, codes}
+-- The job lines, and the text of a job, as pairs of a reader and a printed form.
+use Rattle.std.proofs.Common.{◌≡◌, ◌==◌, zero, suc, true, false, ℕ, pos, negsuc, ◌≤◌, List, [], ◌∷◌, ◌++◌, refl, sym, ap, ◌∙◌, arith, rules, codes}
 use Rattle.std.proofs.lemmas.List.{append-nil}
 use Rattle.std.specs.Fmt.{decimal, signed_decimal}
-use Rattle.bmp_cert.specs.JobGrammar.{entries, letters, rows, job_lines, job, row_text, word_text, with_row, cut_rows, row_lists, row_lists_text, rows_text, job_lines_text, job_text, AreEntries, AreLetters, IsWellFormedJob}
+use Rattle.bmp_cert.specs.JobGrammar.{entries, letters, rows, job_lines, job, row_text, word_text, with_row, cut_rows, row_lists, row_lists_text, rows_text, job_lines_text, job_version, job_text, AreEntries, AreLetters, IsWellFormedJob}
 use Rattle.bmp_cert.proofs.RowLemmas.{IsRow, AreRowLists, all_from_chain, chain_from_all, cut_rows_again, entries_from_rows, rows_from_entries}
 use Rattle.std.proofs.lemmas.List.Elements.{All-weaker}
+use Rattle.bmp_cert.specs.LatticeGrammar.{has_line, lattice_text}
 use Rattle.bmp_cert.specs.declared.job.Job.{Job}
+use Rattle.bmp_cert.specs.declared.lattice.Lattice.{Lattice}
+use Rattle.bmp_cert.specs.declared.lattice.Lattice.TheVariants.{Plain, Root, Weight}
+use Rattle.bmp_cert.proofs.LatticePairs.{lattice_pair}
 use Rattle.bmp_text.proofs.LinePairs.{IsAny, IsFrom, number_pair, natural_pair, counted_pair, line_pair, single_pair, nothing_pair}
 use Rattle.bmp_text.proofs.Pairs.{Pair, give_pair, after_pair, pair_as, chain_pair}
 use Rattle.bmp_text.proofs.WordLemmas.{IsPlainWord}
@@ -37,48 +41,72 @@ rows_pair rank = pair_as IsAny (rows rank) _ (rows_text rank) _ (AreEntries rank
     (λ rs zs f h. ap (cut_rows rank rank) h ∙ (ap (λ (n : ℕ). cut_rows n rank (fold_onto with_row [] rs)) (sym f.0) ∙ cut_rows_again rank rs f.1)))
 
 -- what a job's parts are, one by one
-abbrev AreParts : Job → Type 0
-AreParts j = IsFrom 0 16 j.rank × (AreEntries j.rank j.cartan × (IsFrom 0 255 j.prime × (AreLetters j.word × (IsFrom 0 255 j.degree × (j ≡ record { rank = j.rank; cartan = j.cartan; prime = j.prime; word = j.word; degree = j.degree })))))
+abbrev AreParts : Lattice → Job → Type 0
+AreParts l j = IsFrom 0 16 j.rank × (AreEntries j.rank j.cartan × (IsFrom 0 255 j.prime × (AreLetters j.word × (IsFrom 0 255 j.degree × (j ≡ record { rank = j.rank; cartan = j.cartan; prime = j.prime; word = j.word; degree = j.degree; lattice = l })))))
 
-parts_pair : Pair IsAny job_lines (λ j. single_text (codes "rank") j.rank ++ (rows_text j.rank j.cartan ++ (single_text (codes "prime") j.prime ++ (word_text j.word ++ (single_text (codes "degree") j.degree ++ []))))) AreParts
+parts_pair : (l : Lattice) → Pair IsAny (job_lines l) (λ j. single_text (codes "rank") j.rank ++ (rows_text j.rank j.cartan ++ (single_text (codes "prime") j.prime ++ (word_text j.word ++ (single_text (codes "degree") j.degree ++ []))))) (AreParts l)
 unfolding job_lines
-parts_pair =
+parts_pair l =
     after_pair IsAny (λ j. j.rank) (single_pair (codes "rank") 0 16 (search rules) (omega arith)) (λ rank h0.
     after_pair IsAny (λ j. j.cartan) (rows_pair rank) (λ cartan h1.
     after_pair IsAny (λ j. j.prime) (single_pair (codes "prime") 0 255 (search rules) (omega arith)) (λ prime h2.
     after_pair IsAny (λ j. j.word) word_pair (λ word h3.
     after_pair IsAny (λ j. j.degree) (single_pair (codes "degree") 0 255 (search rules) (omega arith)) (λ degree h4.
-    give_pair IsAny (record { rank = rank; cartan = cartan; prime = prime; word = word; degree = degree }))
+    give_pair IsAny (record { rank = rank; cartan = cartan; prime = prime; word = word; degree = degree; lattice = l }))
     (λ x j f h. ap (λ (t : Job). t.degree) h))
     (λ x j f h. ap (λ (t : Job). t.word) h.1))
     (λ x j f h. ap (λ (t : Job). t.prime) h.1.1))
     (λ x j f h. ap (λ (t : Job). t.cartan) h.1.1.1))
     (λ x j f h. ap (λ (t : Job). t.rank) h.1.1.1.1)
 
+of_lattice : (j : Job) (l : Lattice) → j.lattice ≡ l → j ≡ record { rank = j.rank; cartan = j.cartan; prime = j.prime; word = j.word; degree = j.degree; lattice = l }
+of_lattice j l is = ap (λ (k : Lattice). record { rank = j.rank; cartan = j.cartan; prime = j.prime; word = j.word; degree = j.degree; lattice = k }) is
+
+pub job_lines_pair : (l : Lattice) → Pair IsAny (job_lines l) job_lines_text (λ j. IsWellFormedJob j × (j.lattice ≡ l))
+job_lines_pair l = pair_as IsAny (job_lines l) _ job_lines_text (AreParts l) (λ j. IsWellFormedJob j × (j.lattice ≡ l)) (λ j. simp append-nil)
+    (λ j h. (record { rank = h.0.1; cartan = h.1.0; prime = h.1.1.0.1; word = h.1.1.1.0; degree = h.1.1.1.1.0.1 }, ap (λ (t : Job). t.lattice) h.1.1.1.1.1))
+    (λ j h. ((omega arith, h.0.rank), (h.0.cartan, ((omega arith, h.0.prime), (h.0.word, ((omega arith, h.0.degree), of_lattice j l h.1))))))
+    (parts_pair l)
+
 -- ---- a job
 
-one_is : (n : ℕ) → IsFrom 1 1 n → 1 ≡ n
-one_is n h = omega arith
+version_is : (l : Lattice) (n : ℕ) → IsFrom 1 2 n → has_line l ≡ (n == 2) → job_version l ≡ n
+version_is l zero f h = absurd (omega (arith, f.0))
+version_is Plain (suc zero) f h = refl
+version_is Root (suc zero) f h = absurd cc
+version_is Weight (suc zero) f h = absurd cc
+version_is Plain (suc (suc zero)) f h = absurd cc
+version_is Root (suc (suc zero)) f h = refl
+version_is Weight (suc (suc zero)) f h = refl
+version_is l (suc (suc (suc n))) f h = absurd (omega (arith, f.1))
 
-nil_text : {A : Type 0} (text : A → List ℕ) (x : A) → text x ++ [] ≡ text x
-nil_text text x = append-nil (text x)
+version_range : (l : Lattice) → IsFrom 1 2 (job_version l)
+version_range Plain = (omega arith, omega arith)
+version_range Root = (omega arith, omega arith)
+version_range Weight = (omega arith, omega arith)
 
-pub job_lines_pair : Pair IsAny job_lines job_lines_text IsWellFormedJob
-job_lines_pair = pair_as IsAny job_lines _ job_lines_text AreParts IsWellFormedJob (λ j. simp append-nil)
-    (λ j h. record { rank = h.0.1; cartan = h.1.0; prime = h.1.1.0.1; word = h.1.1.1.0; degree = h.1.1.1.1.0.1 })
-    (λ j h. ((omega arith, h.rank), (h.cartan, ((omega arith, h.prime), (h.word, ((omega arith, h.degree), refl))))))
-    parts_pair
+version_states : (l : Lattice) → has_line l ≡ (job_version l == 2)
+version_states Plain = refl
+version_states Root = refl
+version_states Weight = refl
 
-job_parts : Pair IsAny job (λ j. single_text (codes "bmp-job") 1 ++ (job_lines_text j ++ (line_text (codes "end") [] ++ []))) (λ j. IsFrom 1 1 1 × (IsWellFormedJob j × (Unit {0} × (j ≡ j))))
+-- what the parts of a job's text are, one by one
+abbrev AreTextParts : Job → Type 0
+AreTextParts j = IsFrom 1 2 (job_version j.lattice) × ((has_line j.lattice ≡ (job_version j.lattice == 2)) × ((IsWellFormedJob j × (j.lattice ≡ j.lattice)) × (Unit {0} × (j ≡ j))))
+
+job_parts : Pair IsAny job (λ j. single_text (codes "bmp-job") (job_version j.lattice) ++ (lattice_text j.lattice ++ (job_lines_text j ++ (line_text (codes "end") [] ++ [])))) AreTextParts
 unfolding job
 job_parts =
-    after_pair IsAny (λ j. 1) (single_pair (codes "bmp-job") 1 1 (search rules) (omega arith)) (λ head h0.
-    after_pair IsAny (λ j. j) job_lines_pair (λ job h1.
-    after_pair IsAny (λ j. tt) (line_pair (codes "end") nothing (λ x. []) (λ x. Unit {0}) (search rules) nothing_pair) (λ last h2.
+    after_pair IsAny (λ j. job_version j.lattice) (single_pair (codes "bmp-job") 1 2 (search rules) (omega arith)) (λ version h0.
+    after_pair IsAny (λ j. j.lattice) (lattice_pair (version == 2)) (λ lattice h1.
+    after_pair IsAny (λ j. j) (job_lines_pair lattice) (λ job h2.
+    after_pair IsAny (λ j. tt) (line_pair (codes "end") nothing (λ x. []) (λ x. Unit {0}) (search rules) nothing_pair) (λ last h3.
     give_pair IsAny job)
     (λ x j f h. refl))
     (λ x j f h. h.1))
-    (λ x j f h. one_is x f)
+    (λ x j f h. h.0.1))
+    (λ x j f h. version_is j.lattice x f h.0)
 
 pub job_pair : Pair IsAny job job_text IsWellFormedJob
-job_pair = pair_as IsAny job _ job_text (λ j. IsFrom 1 1 1 × (IsWellFormedJob j × (Unit {0} × (j ≡ j)))) IsWellFormedJob (λ j. simp append-nil) (λ j h. h.1.0) (λ j h. ((omega arith, omega arith), (h, (tt, refl)))) job_parts
+job_pair = pair_as IsAny job _ job_text AreTextParts IsWellFormedJob (λ j. simp append-nil) (λ j h. h.1.1.0.0)
+    (λ j h. (version_range j.lattice, (version_states j.lattice, ((h, refl), (tt, refl))))) job_parts

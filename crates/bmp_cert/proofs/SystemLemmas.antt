@@ -1,5 +1,5 @@
 -- The root systems of a job measure the same, and its intervals have the same vertices.
-use Rattle.std.proofs.Common.{◌≡◌, ◌≢◌, ◌<◌, ◌≤◌, ◌*◌, ◌-◌, ℕ, List, length, sym, ap, ◌∙◌, subst, arith}
+use Rattle.std.proofs.Common.{◌≡◌, ◌≢◌, ◌<◌, ◌≤◌, ◌*◌, ◌-◌, ℕ, List, [], ◌∷◌, length, sym, ap, ◌∙◌, subst, arith}
 use Rattle.std.proofs.lemmas.List.{length-map}
 use Rattle.bmp_math.proofs.ListLemmas.{length_within}
 use Rattle.bmp_roots.specs.RootPairs.{CartanMatrix}
@@ -22,7 +22,8 @@ use Rattle.bmp_weyl.proofs.OneLength.{one_length as one_word_length}
 use Rattle.bmp_poly.specs.Exponents.{count}
 use Rattle.bmp_cert.specs.declared.job.Job.{Job}
 use Rattle.bmp_cert.specs.JobGraphs.{matrix_of_job, IsSystemOf, IsJobInterval}
-use Rattle.bmp_cert.specs.JobRules.{HasLetters, HasLength, HasReducedWord, HasInterval, HasSize, IsSmall, KeepsBefore, IsFirstFault}
+use Rattle.bmp_cert.specs.JobRules.{HasLetters, HasLength, HasReducedWord, HasInterval, HasSize, IsSmall, letter_rules, KeepsAll, IsFirstFault}
+use Rattle.bmp_cert.proofs.RuleLemmas.{keeps_letters, fails_behind}
 use Rattle.bmp_cert.specs.declared.job_fault.JobFault.TheVariants.{Reduced, TooMany}
 
 -- ---- root systems
@@ -92,7 +93,7 @@ size_is j roots vertices n degree monomials system interval number same counted 
 -- ---- the faults of a word
 
 -- a word that is longer than its product
-pub reduced_fault : (j : Job) (roots : Roots) (word : List ℕ) (n : ℕ) → word ≡ j.word → KeepsBefore (Reduced n) j → IsSystemOf j roots
+pub reduced_fault : (j : Job) (roots : Roots) (word : List ℕ) (n : ℕ) → word ≡ j.word → KeepsAll letter_rules j → IsSystemOf j roots
     → IsFault (matrix_of roots) (positive_roots_of roots) (word_of word) (NotReduced n) → IsFirstFault j (Reduced n)
 reduced_fault j roots word n is before system fault =
     let measured : HasLength j n = record {
@@ -101,20 +102,20 @@ reduced_fault j roots word n is before system fault =
       length_is = fault.0 ∙ ap (λ (w : List ℕ). length_of (matrix_of roots) (positive_roots_of roots) (word_of w)) is;
     } in
     record {
-      before = before;
-      broken = not_reduced j n measured (λ e. fault.1 (e ∙ (sym (ap (λ (w : List ℕ). length w) is) ∙ sym (length-map word (λ letter. letter - 1)))));
+      fails = fails_behind j letter_rules (HasReducedWord ∷ []) 0 before
+          (not_reduced j n measured (λ e. fault.1 (e ∙ (sym (ap (λ (w : List ℕ). length w) is) ∙ sym (length-map word (λ letter. letter - 1))))));
       values = measured;
     }
 
 -- too many vertices
-pub vertices_fault : (j : Job) (roots : Roots) (word : List ℕ) (n : ℕ) → word ≡ j.word → KeepsBefore (Reduced n) j → IsSystemOf j roots
+pub vertices_fault : (j : Job) (roots : Roots) (word : List ℕ) (n : ℕ) → word ≡ j.word → KeepsAll letter_rules j → IsSystemOf j roots
     → IsFault (matrix_of roots) (positive_roots_of roots) (word_of word) (Many n) → IsFirstFault j (TooMany n)
 vertices_fault j roots word n is before system fault =
     let more : HasMoreVertices (matrix_of_job j) (word_of j.word) max_vertices =
     subst (λ (m : CartanMatrix). HasMoreVertices m (word_of j.word) max_vertices) system.matrix
     (subst (λ (w : List ℕ). HasMoreVertices (matrix_of roots) (word_of w) max_vertices) is fault.2) in
     record {
-      before = (before.0, before.1, before.2, before.3, reduced_word j roots word is system fault.0);
-      broken = no_interval j before.3 more;
+      fails = fails_behind j letter_rules (HasReducedWord ∷ HasInterval ∷ []) 1 before
+          (reduced_word j roots word is system fault.0, no_interval j (keeps_letters j before) more);
       values = fault.1;
     }

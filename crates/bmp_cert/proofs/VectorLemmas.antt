@@ -9,7 +9,7 @@ use Rattle.bmp_text.proofs.WordLemmas.{plain_word}
 use Rattle.bmp_text.proofs.LinePairs.{line_found, found_cut}
 use Rattle.bmp_text.specs.Words.{cut}
 use Rattle.bmp_cert.specs.VectorGrammar.{vector, vector_text, IsVector}
-use Rattle.bmp_cert.proofs.CertPairs.{vector_pair}
+use Rattle.bmp_cert.proofs.VectorPairs.{vector_pair}
 use Rattle.std.proofs.lemmas.List.Elements.{All-weaker, All-push}
 use Rattle.bmp_linear.specs.declared.vector.Entry.{Entry}
 use Rattle.bmp_linear.specs.SparseVectors.{FitsBelow}

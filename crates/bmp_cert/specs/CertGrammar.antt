@@ -1,10 +1,12 @@
--- The text of a certificate, version 1: what is read, how it is printed, and what has a text.
---   part_at last most degree x    the part of the vertex x, whose lines depend on whether it is the last one
---   parts most degree n        the parts of n vertices, from the vertex n - 1 down to 0
---   part_lines most degree     the line `vertices n`, and the parts; their values are from 1 to most
---   cert                       reads a whole certificate text
---   cert_text c                the text of c
---   IsWellFormed c             c has a text
+-- The text of a certificate: what is read, how it is printed, and what has a text. The version decides on the line of the
+-- lattice and on the lines of the blocks.
+--   part_at version last most degree x    the part of the vertex x, whose lines depend on whether it is the last one
+--   parts version most degree n      the parts of n vertices, from the vertex n - 1 down to 0
+--   part_lines version most degree   the line `vertices n`, and the parts; their values are from 1 to most
+--   HavePartLines version most degree ps    the parts have such lines
+--   cert                             reads a whole certificate text
+--   cert_text c                      the text of c
+--   IsWellFormed c                   c has a text
 use Rattle.std.specs.Prelude.{count_by, ◌≡◌, ◌≤◌, ◌*◌, ◌+◌, ◌-◌, ◌==◌, ℕ, List, [], ◌∷◌, ◌++◌, length, Result, codes, if◌then◌else◌}
 use Rattle.std.specs.Fmt.{decimal}
 use Rattle.bmp_text.specs.declared.fault.TextFault.{TextFault}
@@ -14,6 +16,9 @@ use Rattle.bmp_text.specs.Sequence.{◌>>=◌}
 use Rattle.bmp_text.specs.Printing.{Chosen, line_text, single_text, chain_text, counted_text, ChainFits, CountedFits}
 use Rattle.bmp_cert.specs.declared.cert.VertexPart.{VertexPart}
 use Rattle.bmp_cert.specs.declared.cert.Cert.{Cert}
+use Rattle.bmp_cert.specs.Limits.{max_version}
+use Rattle.bmp_cert.specs.Versions.{IsVersionOf, states_lattice}
+use Rattle.bmp_cert.specs.LatticeGrammar.{lattice_if, lattice_text}
 use Rattle.bmp_cert.specs.JobGrammar.{job_lines, job_lines_text, IsWellFormedJob}
 use Rattle.bmp_cert.specs.VectorGrammar.{MOST, vectors, vectors_text, AreVectors}
 use Rattle.bmp_cert.specs.BlockGrammar.{block, block_text, IsBlock}
@@ -64,75 +69,79 @@ IsTop degree v = AreDegrees degree v.degrees
 
 -- ---- the others: edges, lifts by edge and then by generator, and a block for each degree
 
-unfoldable pub part : ℕ → ℕ → ℕ → Cursor ℕ → Result (VertexPart × Cursor ℕ) TextFault
-part most degree x = do
+unfoldable pub part : ℕ → ℕ → ℕ → ℕ → Cursor ℕ → Result (VertexPart × Cursor ℕ) TextFault
+part version most degree x = do
   es ← line (codes "vertex") (vertex_words x degree)
   m ← single (codes "edges") 0 MOST
   lifts ← vectors (codes "lift") most (m * length es)
-  blocks ← chain (block most (λ d. count_by (λ e. e == d) es)) step_up (degree + 1) 0
+  blocks ← chain (block version most (λ d. count_by (λ e. e == d) es)) step_up (degree + 1) 0
   give (record { degrees = es; edges = m; lifts = lifts; blocks = blocks })
 
-abbrev pub part_text : ℕ → VertexPart → List ℕ
-part_text x v = vertex_text x v.degrees ++ (single_text (codes "edges") v.edges
-    ++ (vectors_text (codes "lift") v.lifts ++ chain_text block_text step_up 0 v.blocks))
+abbrev pub part_text : ℕ → ℕ → VertexPart → List ℕ
+part_text version x v = vertex_text x v.degrees ++ (single_text (codes "edges") v.edges
+    ++ (vectors_text (codes "lift") v.lifts ++ chain_text (block_text version) step_up 0 v.blocks))
 
-pub record IsPart (most degree x : ℕ) (v : VertexPart) : Type 0 where
+pub record IsPart (version most degree x : ℕ) (v : VertexPart) : Type 0 where
   pub degrees : AreDegrees degree v.degrees
   pub edges : v.edges ≤ MOST
   pub lifts : AreVectors most (v.edges * length v.degrees) v.lifts
-  pub blocks : (length v.blocks ≡ degree + 1) × ChainFits (IsBlock most (λ d. count_by (λ e. e == d) v.degrees)) step_up 0 v.blocks
+  pub blocks : (length v.blocks ≡ degree + 1)
+      × ChainFits (IsBlock version most (λ d. count_by (λ e. e == d) v.degrees)) step_up 0 v.blocks
 
 -- ---- all vertices
 
-abbrev pub part_at : ℕ → ℕ → ℕ → ℕ → Cursor ℕ → Result (VertexPart × Cursor ℕ) TextFault
-part_at last most degree x = if x == last then top degree x else part most degree x
+abbrev pub part_at : ℕ → ℕ → ℕ → ℕ → ℕ → Cursor ℕ → Result (VertexPart × Cursor ℕ) TextFault
+part_at version last most degree x = if x == last then top degree x else part version most degree x
 
-abbrev pub part_at_text : ℕ → ℕ → VertexPart → List ℕ
-part_at_text last x = if x == last then top_text x else part_text x
+abbrev pub part_at_text : ℕ → ℕ → ℕ → VertexPart → List ℕ
+part_at_text version last x = if x == last then top_text x else part_text version x
 
-abbrev pub IsPartAt : ℕ → ℕ → ℕ → ℕ → VertexPart → Type 0
-IsPartAt last most degree x v = Chosen (x == last) (IsTop degree v) (IsPart most degree x v)
+abbrev pub IsPartAt : ℕ → ℕ → ℕ → ℕ → ℕ → VertexPart → Type 0
+IsPartAt version last most degree x v = Chosen (x == last) (IsTop degree v) (IsPart version most degree x v)
 
-abbrev pub parts : ℕ → ℕ → ℕ → Cursor ℕ → Result (List VertexPart × Cursor ℕ) TextFault
-parts most degree n c = chain (part_at (n - 1) most degree) step_down n (n - 1) c
+abbrev pub parts : ℕ → ℕ → ℕ → ℕ → Cursor ℕ → Result (List VertexPart × Cursor ℕ) TextFault
+parts version most degree n c = chain (part_at version (n - 1) most degree) step_down n (n - 1) c
 
-abbrev pub parts_text : ℕ → List VertexPart → List ℕ
-parts_text n vs = chain_text (part_at_text (n - 1)) step_down (n - 1) vs
+abbrev pub parts_text : ℕ → ℕ → List VertexPart → List ℕ
+parts_text version n vs = chain_text (part_at_text version (n - 1)) step_down (n - 1) vs
 
-abbrev pub AreParts : ℕ → ℕ → ℕ → List VertexPart → Type 0
-AreParts most degree n vs = (length vs ≡ n) × ChainFits (IsPartAt (n - 1) most degree) step_down (n - 1) vs
+abbrev pub AreParts : ℕ → ℕ → ℕ → ℕ → List VertexPart → Type 0
+AreParts version most degree n vs =
+    (length vs ≡ n) × ChainFits (IsPartAt version (n - 1) most degree) step_down (n - 1) vs
 
 -- ---- the line `vertices n`, and the parts
 
-unfoldable pub part_lines : ℕ → ℕ → Cursor ℕ → Result (List VertexPart × Cursor ℕ) TextFault
-part_lines most degree = do
+unfoldable pub part_lines : ℕ → ℕ → ℕ → Cursor ℕ → Result (List VertexPart × Cursor ℕ) TextFault
+part_lines version most degree = do
   n ← single (codes "vertices") 1 MOST
-  ps ← parts most degree n
+  ps ← parts version most degree n
   give ps
 
-abbrev pub part_lines_text : List VertexPart → List ℕ
-part_lines_text ps = single_text (codes "vertices") (length ps) ++ parts_text (length ps) ps
+abbrev pub part_lines_text : ℕ → List VertexPart → List ℕ
+part_lines_text version ps = single_text (codes "vertices") (length ps) ++ parts_text version (length ps) ps
 
-pub record HavePartLines (most degree : ℕ) (ps : List VertexPart) : Type 0 where
+pub record HavePartLines (version most degree : ℕ) (ps : List VertexPart) : Type 0 where
   pub some : 1 ≤ length ps
   pub few : length ps ≤ MOST
-  pub parts : AreParts most degree (length ps) ps
+  pub parts : AreParts version most degree (length ps) ps
 
 -- ---- a certificate
 
 unfoldable pub cert : Cursor ℕ → Result (Cert × Cursor ℕ) TextFault
 cert = do
-  version ← single (codes "bmp-cert") 1 1
-  job ← job_lines
-  ps ← part_lines (job.prime - 1) job.degree
+  version ← single (codes "bmp-cert") 1 max_version
+  lattice ← lattice_if (states_lattice version)
+  job ← job_lines lattice
+  ps ← part_lines version (job.prime - 1) job.degree
   last ← line (codes "end") nothing
   give (record { version = version; job = job; vertices = ps })
 
 abbrev pub cert_text : Cert → List ℕ
-cert_text c = single_text (codes "bmp-cert") c.version
-    ++ (job_lines_text c.job ++ (part_lines_text c.vertices ++ line_text (codes "end") []))
+cert_text c = single_text (codes "bmp-cert") c.version ++ (lattice_text c.job.lattice
+    ++ (job_lines_text c.job ++ (part_lines_text c.version c.vertices ++ line_text (codes "end") [])))
 
 pub record IsWellFormed (c : Cert) : Type 0 where
-  pub version : c.version ≡ 1
+  pub version : IsVersionOf c.job.lattice c.version
+  pub printed : c.version ≤ max_version
   pub job : IsWellFormedJob c.job
-  pub vertices : HavePartLines (c.job.prime - 1) c.job.degree c.vertices
+  pub vertices : HavePartLines c.version (c.job.prime - 1) c.job.degree c.vertices

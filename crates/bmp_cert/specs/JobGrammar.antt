@@ -1,10 +1,11 @@
 -- The job lines of a text, and the text of a job: what is read, how it is printed, and what has a text.
---   job_lines             reads the lines rank, row, prime, word and degree
+--   job_lines lattice     reads the lines rank, row, prime, word and degree of a job with this lattice
 --   job_lines_text j      the job lines of j
 --   IsWellFormedJob j     j has job lines
 --   job                   reads a whole job text
+--   job_version l         the number on the first line of a job text
 --   job_text j            the text of j
-use Rattle.std.specs.Prelude.{◌≡◌, ◌≤◌, ◌*◌, ℕ, zero, suc, ℤ, pos, negsuc, List, [], ◌∷◌, ◌++◌, length, take, drop, Result, codes, All}
+use Rattle.std.specs.Prelude.{◌≡◌, ◌≤◌, ◌*◌, ◌==◌, if◌then◌else◌, ℕ, zero, suc, ℤ, pos, negsuc, List, [], ◌∷◌, ◌++◌, length, take, drop, Result, codes, All}
 use Rattle.std.specs.Fmt.{decimal, signed_decimal}
 use Rattle.bmp_text.specs.declared.fault.TextFault.{TextFault}
 use Rattle.bmp_text.specs.Numerals.{InRange}
@@ -12,7 +13,9 @@ use Rattle.bmp_text.specs.Cursor.{Cursor, number, natural}
 use Rattle.bmp_text.specs.Readers.{onto, give, nothing, same, chain, counted_chain, line, single}
 use Rattle.bmp_text.specs.Sequence.{◌>>=◌}
 use Rattle.bmp_text.specs.Printing.{line_text, single_text, chain_text, counted_text}
+use Rattle.bmp_cert.specs.LatticeGrammar.{has_line, lattice_if, lattice_text}
 use Rattle.bmp_cert.specs.declared.job.Job.{Job}
+use Rattle.bmp_cert.specs.declared.lattice.Lattice.{Lattice}
 
 -- ---- read
 
@@ -36,19 +39,20 @@ letter_list n l = chain (λ (s : Unit {0}). natural 0 255) same n tt l
 abbrev pub letters : Cursor (List ℕ) → Result (List ℕ × Cursor (List ℕ)) TextFault
 letters l = counted_chain 255 (λ (s : Unit {0}). natural 0 255) same tt l
 
-unfoldable pub job_lines : Cursor ℕ → Result (Job × Cursor ℕ) TextFault
-job_lines = do
+unfoldable pub job_lines : Lattice → Cursor ℕ → Result (Job × Cursor ℕ) TextFault
+job_lines lattice = do
   rank ← single (codes "rank") 0 16
   cartan ← rows rank
   prime ← single (codes "prime") 0 255
   word ← line (codes "word") letters
   degree ← single (codes "degree") 0 255
-  give (record { rank = rank; cartan = cartan; prime = prime; word = word; degree = degree })
+  give (record { rank = rank; cartan = cartan; prime = prime; word = word; degree = degree; lattice = lattice })
 
 unfoldable pub job : Cursor ℕ → Result (Job × Cursor ℕ) TextFault
 job = do
-  head ← single (codes "bmp-job") 1 1
-  job ← job_lines
+  version ← single (codes "bmp-job") 1 2
+  lattice ← lattice_if (version == 2)
+  job ← job_lines lattice
   last ← line (codes "end") nothing
   give job
 
@@ -75,8 +79,12 @@ abbrev pub job_lines_text : Job → List ℕ
 job_lines_text j = single_text (codes "rank") j.rank ++ (rows_text j.rank j.cartan
     ++ (single_text (codes "prime") j.prime ++ (word_text j.word ++ single_text (codes "degree") j.degree)))
 
+abbrev pub job_version : Lattice → ℕ
+job_version l = if has_line l then 2 else 1
+
 abbrev pub job_text : Job → List ℕ
-job_text j = single_text (codes "bmp-job") 1 ++ (job_lines_text j ++ line_text (codes "end") [])
+job_text j = single_text (codes "bmp-job") (job_version j.lattice)
+    ++ (lattice_text j.lattice ++ (job_lines_text j ++ line_text (codes "end") []))
 
 -- ---- what has a text
 

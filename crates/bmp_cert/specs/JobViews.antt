@@ -1,6 +1,6 @@
 -- What the results of the job rules are seen as.
---   job_of p, interval_of p, graph_of p    of a job that keeps the first eight rules: the job, its interval, its graph
---   prepared_of a                          of an accepted job: the same as a job that keeps the first eight
+--   job_of p, interval_of p, graph_of p    of a job that has a graph: the job, its interval, its graph
+--   prepared_of a                          of an accepted job: the same as a job that has a graph
 use Rattle.bmp_interval.specs.declared.interval.Interval.{Interval}
 use Rattle.bmp_graph.specs.Graph.{Graph}
 use Rattle.bmp_cert.specs.declared.job.Job.{Job}

@@ -1,10 +1,13 @@
+pub mod Limits
+pub mod Versions
 pub mod Answers
+pub mod LatticeGrammar
 pub mod JobGrammar
 pub mod VectorGrammar
 pub mod BlockGrammar
 pub mod CertGrammar
+pub mod TextEnds
 pub mod Counts
-pub mod Limits
 pub mod JobGraphs
 pub mod JobRules
 pub mod JobViews

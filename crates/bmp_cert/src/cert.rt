@@ -5,8 +5,10 @@ ghost use Rattle.bmp_cert.specs.Answers.{Gives, Answers};
 ghost use Rattle.bmp_cert.specs.CertGrammar.{cert, cert_text, IsWellFormed};
 ghost use Rattle.bmp_cert.specs.declared.cert.Cert.{Cert};
 
-use crate::job_reader::{end_of, single_of};
-use crate::{CertError, Degrees, Job, read_job_lines, read_parts};
+use crate::job_reader::{end_of, job_lines_of, single_of};
+use crate::lattice_text::lattice_if;
+use crate::part::part_lines_of;
+use crate::{CertError, Degrees, Job};
 use bmp_linear::{Blocks, Vectors};
 use bmp_text::Lines;
 use std::alloc::{AllocError, Global};
@@ -110,7 +112,11 @@ impl Parts {
     }
 }
 
-/// A certificate: a job, and the part of each vertex, the greatest first.
+/// The greatest version on the first line of a certificate.
+pub(crate) const MAX_VERSION: u8 = 1;
+
+/// A certificate: its version, a job, and the part of each vertex, the greatest first. In version 1 the evidence is by
+/// whole section spaces, in versions 2 and 3 by levels; the versions 1 and 2 are of plain jobs, and 3 of all others.
 #[derive(Debug, Drop)]
 pub struct Cert {
     pub version: u8,
@@ -123,9 +129,10 @@ pub struct Cert {
 fn cert_of(alloc: Global, lines: &mut Lines) -> Result<Cert, CertError>
     ensures { Gives (λ c. c) lines.new result (cert lines.old) }
 {
-    let version = single_of(lines, b"bmp-cert", 1, 1)?;
-    let job = read_job_lines(alloc, lines)?;
-    let vertices = read_parts(alloc, lines, version, job.prime, job.degree)?;
+    let version = single_of(lines, b"bmp-cert", 1, MAX_VERSION)?;
+    let lattice = lattice_if(lines, version == 3)?;
+    let job = job_lines_of(alloc, lines, lattice)?;
+    let vertices = part_lines_of(alloc, lines, version, job.prime, job.degree)?;
     end_of(lines)?;
     Ok(Cert {
         version,

@@ -1,12 +1,13 @@
 //! A job.
 ghost use Rattle.std.specs.Prelude.{◌≡◌, IfOk};
 
-use crate::Entries;
+use crate::{Entries, Lattice};
 use bmp_weyl::Letters;
 use std::alloc::AllocError;
 
 /// What a certificate is about: the Cartan matrix of rank `rank`, row by row, the number of elements of the
-/// field, the word, whose letters count from 1, and the degree bound (a linear form has degree 1).
+/// field, the word, whose letters count from 1, the degree bound (a linear form has degree 1), and the lattice, which
+/// says in which coordinates labels are.
 /// A job may hold any numbers; which are accepted is told by the rules of jobs.
 #[derive(Debug, Drop)]
 pub struct Job {
@@ -15,6 +16,7 @@ pub struct Job {
     pub prime: u8,
     pub word: Letters,
     pub degree: u8,
+    pub lattice: Lattice,
 }
 
 impl Job {
@@ -28,6 +30,7 @@ impl Job {
             prime: self.prime,
             word: self.word.copy()?,
             degree: self.degree,
+            lattice: self.lattice,
         })
     }
 }

@@ -35,6 +35,9 @@ pub enum JobFault {
     /// The number of vertices times that of the monomials of the greatest degree, this one, is above 400,000.
     #[error("vertices times monomials are {size}, above 400,000")]
     TooLarge { size: u32 },
+    /// The first edge, by lower and then by upper vertex, whose label would be zero.
+    #[error("the label of the edge from vertex {lower} up to vertex {upper} is zero")]
+    ZeroLabel { lower: u32, upper: u32 },
     /// The first two edges at a vertex whose labels are parallel.
     #[error("at vertex {} the edges {} and {} have parallel labels", .0.vertex, .0.first, .0.second)]
     Gkm(GkmPair),

@@ -6,8 +6,10 @@ ghost use Rattle.bmp_text.specs.LaterLines.{IsLaterLine, PassesLines};
 ghost use Rattle.bmp_cert.specs.Answers.{Gives, Answers, Pushes};
 ghost use Rattle.bmp_cert.specs.JobGrammar.{entries, letter_list, letters, rows, job_lines, job, job_text, IsWellFormedJob};
 ghost use Rattle.bmp_cert.specs.declared.job.Job.{Job};
+ghost use Rattle.bmp_cert.specs.declared.lattice.Lattice.TheVariants.{Plain};
 
-use crate::{CertError, Entries, Job};
+use crate::lattice_text::lattice_if;
+use crate::{CertError, Entries, Job, Lattice};
 use bmp_text::{Line, Lines};
 use bmp_weyl::Letters;
 use std::alloc::Global;
@@ -125,11 +127,14 @@ pub(crate) fn end_of(lines: &mut Lines) -> Result<(), CertError>
     Ok(())
 }
 
-/// Reads the job lines, or gives the first fault in reading order. After an error `lines` stands where it stood, or
-/// behind a later line: at the start of a line, or at the end of the text.
+/// The job lines of a job with this lattice.
 #[tactic(auto, unfolding(crate::specs::JobGrammar::job_lines), using(bmp_text::proofs::LaterLines::same_place))]
-pub fn read_job_lines(alloc: Global, lines: &mut Lines) -> Result<Job, CertError>
-    ensures gives { Gives (λ j. j) lines.new result (job_lines lines.old) }
+pub(crate) fn job_lines_of(
+    alloc: Global,
+    lines: &mut Lines,
+    lattice: Lattice,
+) -> Result<Job, CertError>
+    ensures gives { Gives (λ j. j) lines.new result (job_lines lattice lines.old) }
     ensures later { IsLaterLine lines.old lines.new }
 {
     let rank = single_of(lines, b"rank", 0, 16)?;
@@ -143,7 +148,17 @@ pub fn read_job_lines(alloc: Global, lines: &mut Lines) -> Result<Job, CertError
         prime,
         word,
         degree,
+        lattice,
     })
+}
+
+/// Reads the job lines, or gives the first fault in reading order. The lattice isn't among them: the job is a plain one.
+/// After an error `lines` stands where it stood, or behind a later line: at the start of a line, or at the end of the text.
+pub fn read_job_lines(alloc: Global, lines: &mut Lines) -> Result<Job, CertError>
+    ensures gives { Gives (λ j. j) lines.new result (job_lines Plain lines.old) }
+    ensures later { IsLaterLine lines.old lines.new }
+{
+    job_lines_of(alloc, lines, Lattice::Plain)
 }
 
 // A job up to its last line.
@@ -151,8 +166,9 @@ pub fn read_job_lines(alloc: Global, lines: &mut Lines) -> Result<Job, CertError
 fn job_of(alloc: Global, lines: &mut Lines) -> Result<Job, CertError>
     ensures { Gives (λ j. j) lines.new result (job lines.old) }
 {
-    single_of(lines, b"bmp-job", 1, 1)?;
-    let job = read_job_lines(alloc, lines)?;
+    let version = single_of(lines, b"bmp-job", 1, 2)?;
+    let lattice = lattice_if(lines, version == 2)?;
+    let job = job_lines_of(alloc, lines, lattice)?;
     end_of(lines)?;
     Ok(job)
 }

@@ -1,10 +1,10 @@
 //! Jobs and certificates: their types, their texts, and the rules of a job.
 //!
-//! A job is a Cartan matrix, a prime, a word and a degree bound. A certificate is a job with the part of each
+//! A job is a Cartan matrix, a prime, a word, a degree bound and a lattice. A certificate is a job with the part of each
 //! vertex: the degrees of its generators, the lifts on its edges, and the evidence of each degree.
 //! The grammar of both texts stands in `specs/` as readers (which give a value, or the first fault) with
-//! printed forms (JobGrammar, VectorGrammar, BlockGrammar, CertGrammar); `laws` says that each well formed
-//! value has one text, and each text one value.
+//! printed forms (LatticeGrammar, JobGrammar, VectorGrammar, BlockGrammar, CertGrammar), the version of a certificate
+//! being their parameter (Versions); `laws` says that each well formed value has one text, and each text one value.
 #![tactic(auto)]
 
 mod block;
@@ -17,6 +17,9 @@ mod job_fault;
 mod job_formed;
 mod job_reader;
 pub mod laws;
+mod lattice;
+mod lattice_text;
+mod line_counts;
 mod lists;
 mod part;
 mod prepared;
@@ -33,6 +36,7 @@ pub use job::Job;
 pub use job_fault::{JobError, JobFault};
 pub use job_formed::well_formed_job;
 pub use job_reader::{read_job, read_job_lines};
+pub use lattice::Lattice;
 pub use lists::{Degrees, Entries};
 pub use part::read_parts;
 pub use prepared::{Accepted, Prepared};

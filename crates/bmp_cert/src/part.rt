@@ -4,6 +4,7 @@ ghost use Rattle.bmp_text.specs.Cursor.{natural};
 ghost use Rattle.bmp_text.specs.Readers.{chain, line, single};
 ghost use Rattle.bmp_text.specs.LaterLines.{IsLaterLine, PassesLines};
 ghost use Rattle.bmp_cert.specs.Answers.{Gives};
+ghost use Rattle.bmp_cert.specs.Versions.{IsVersion};
 ghost use Rattle.bmp_cert.specs.VectorGrammar.{MOST};
 ghost use Rattle.bmp_cert.specs.CertGrammar.{from_degree, vertex_words, top, part, part_at, parts, part_lines};
 
@@ -96,19 +97,27 @@ fn top_of(
 fn part_of(
     alloc: Global,
     lines: &mut Lines,
+    version: u8,
     number: u64,
     most: u8,
     degree: u8,
 ) -> Result<VertexPart, CertError>
     requires { number < 2 ^ 63 }
-    ensures gives { Gives (λ v. v) lines.new result (part most degree number lines.old) }
+    ensures gives { Gives (λ v. v) lines.new result (part version most degree number lines.old) }
     ensures later { PassesLines lines.old lines.new }
 {
     let degrees = vertex_of(alloc, lines, number, degree)?;
     let edges = count_line(lines, b"edges", 0)?;
     let count = u64::from(edges) * u64::from(degrees.len());
     let lifts = vectors_of(alloc, lines, b"lift", most, count)?;
-    let blocks = blocks_of(alloc, lines, most, &degrees, u64::from(degree) + 1)?;
+    let blocks = blocks_of(
+        alloc,
+        lines,
+        version,
+        most,
+        &degrees,
+        u64::from(degree) + 1,
+    )?;
     Ok(VertexPart {
         degrees,
         edges,
@@ -121,63 +130,79 @@ fn part_of(
 fn part_at(
     alloc: Global,
     lines: &mut Lines,
+    version: u8,
     last: u64,
     number: u64,
     most: u8,
     degree: u8,
 ) -> Result<VertexPart, CertError>
     requires { number < 2 ^ 63 }
-    ensures gives { Gives (λ v. v) lines.new result (part_at last most degree number lines.old) }
+    ensures gives { Gives (λ v. v) lines.new result (part_at version last most degree number lines.old) }
     ensures later { PassesLines lines.old lines.new }
 {
     if number == last {
         top_of(alloc, lines, number, degree)
     } else {
-        part_of(alloc, lines, number, most, degree)
+        part_of(alloc, lines, version, number, most, degree)
     }
 }
 
-/// The parts of `count` vertices, from the greatest number down.
-pub(crate) fn parts_of(
+// The parts of `count` vertices, from the greatest number down.
+fn parts_of(
     alloc: Global,
     lines: &mut Lines,
+    version: u8,
     most: u8,
     degree: u8,
     count: u64,
 ) -> Result<Parts, CertError>
     requires some { 1 ≤ count }
     requires few { count ≤ MOST }
-    ensures gives { Gives (λ v. v) lines.new result (parts most degree count lines.old) }
+    ensures gives { Gives (λ v. v) lines.new result (parts version most degree count lines.old) }
     ensures later { PassesLines lines.old lines.new }
 {
     let last = count - 1;
     let mut list = Parts::new(alloc);
     let mut number = last;
     'parts: for _ in 0..count {
-        let vertex = part_at(alloc, lines, last, number, most, degree)?;
+        let vertex = part_at(alloc, lines, version, last, number, most, degree)?;
         list.push(vertex)?;
         number = number.saturating_sub(1);
     }
     Ok(list)
 }
 
-/// Reads the line `vertices n` and the parts of the vertices, or gives the first fault in reading order: vectors
-/// with values below `prime`, and degrees up to `degree`. After an error `lines` stands where it stood, or behind a
-/// later line: at the start of a line, or at the end of the text.
+/// The line `vertices n` and the parts of the vertices.
 #[tactic(auto, unfolding(crate::specs::CertGrammar::part_lines), using(bmp_text::proofs::LaterLines::same_place))]
-pub fn read_parts(
+pub(crate) fn part_lines_of(
     alloc: Global,
     lines: &mut Lines,
-    _version: u8,
+    version: u8,
     prime: u8,
     degree: u8,
 ) -> Result<Parts, CertError>
-    requires { _version ≡ 1 }
-    ensures gives { Gives (λ v. v) lines.new result (part_lines (prime - 1) degree lines.old) }
+    ensures gives { Gives (λ v. v) lines.new result (part_lines version (prime - 1) degree lines.old) }
     ensures later { IsLaterLine lines.old lines.new }
 {
     let count = count_line(lines, b"vertices", 1)?;
     let most = prime.saturating_sub(1);
-    let vertices = parts_of(alloc, lines, most, degree, u64::from(count))?;
+    let vertices = parts_of(alloc, lines, version, most, degree, u64::from(count))?;
     Ok(vertices)
+}
+
+/// Reads the line `vertices n` and the parts of the vertices as a version has them, or gives the first fault in reading
+/// order: vectors with values below `prime`, and degrees up to `degree`. After an error `lines` stands where it stood, or
+/// behind a later line: at the start of a line, or at the end of the text.
+pub fn read_parts(
+    alloc: Global,
+    lines: &mut Lines,
+    version: u8,
+    prime: u8,
+    degree: u8,
+) -> Result<Parts, CertError>
+    requires { IsVersion version }
+    ensures gives { Gives (λ v. v) lines.new result (part_lines version (prime - 1) degree lines.old) }
+    ensures later { IsLaterLine lines.old lines.new }
+{
+    part_lines_of(alloc, lines, version, prime, degree)
 }

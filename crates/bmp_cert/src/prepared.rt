@@ -3,20 +3,21 @@ ghost use Rattle.std.specs.Prelude.{◌≡◌, IfOk, OnOk, IfErr};
 ghost use Rattle.bmp_graph.specs.Graph.{HasGkm};
 ghost use Rattle.bmp_graph.specs.Faults.{IsFirstParallelPair};
 ghost use Rattle.bmp_cert.specs.JobGraphs.{IsPrepared};
-ghost use Rattle.bmp_cert.specs.JobRules.{KeepsFirstRules, KeepsRules};
+ghost use Rattle.bmp_cert.specs.JobRules.{graph_rules, rules, KeepsAll};
 
 use crate::Job;
 use bmp_graph::{GkmPair, MomentGraph};
 use bmp_interval::Interval;
 
-/// A job that keeps the first eight rules, with the interval below its word and the moment graph of the interval.
+/// A job that keeps all rules but that of parallel labels, with the interval below its word and the moment graph of the
+/// interval.
 #[derive(Drop)]
 pub struct Prepared {
     pub(crate) job: Job,
     pub(crate) interval: Interval,
     pub(crate) graph: MomentGraph,
     pub ghost prepared: { ∥ IsPrepared job interval graph ∥₁ },
-    pub ghost keeps: { ∥ KeepsFirstRules job ∥₁ },
+    pub ghost keeps: { ∥ KeepsAll graph_rules job ∥₁ },
 }
 
 /// A job that keeps all rules.
@@ -24,7 +25,7 @@ pub struct Prepared {
 pub struct Accepted {
     prepared: Prepared,
     pub ghost holds: { HasGkm prepared.graph },
-    pub ghost keeps: { ∥ KeepsRules prepared.job ∥₁ },
+    pub ghost keeps: { ∥ KeepsAll rules prepared.job ∥₁ },
 }
 
 impl Prepared {

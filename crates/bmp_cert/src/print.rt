@@ -6,6 +6,7 @@ ghost use Rattle.bmp_text.specs.Printing.{spaced_words, chain_text, single_text}
 ghost use Rattle.bmp_cert.specs.JobGrammar.{row_text, word_text, rows_text, job_lines_text, job_text, IsWellFormedJob};
 
 use crate::Job;
+use crate::lattice_text::push_lattice;
 use bmp_text::{push_int, push_number};
 use std::alloc::{AllocError, Global};
 
@@ -112,7 +113,8 @@ pub fn print_job(alloc: Global, j: &Job) -> Result<Vec<u8>, AllocError>
     ensures { IfOk result (λ v. v.items ≡ job_text j.now) }
 {
     let mut out = Vec::new(alloc);
-    push_single(&mut out, b"bmp-job", 1)?;
+    push_single(&mut out, b"bmp-job", if j.lattice.has_line() { 2 } else { 1 })?;
+    push_lattice(&mut out, j.lattice)?;
     push_lines(&mut out, j)?;
     out.extend_from_slice(b"end\n")?;
     Ok(out)

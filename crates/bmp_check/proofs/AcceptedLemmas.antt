@@ -1,5 +1,8 @@
 -- What an accepted certificate writes can be checked on the graph of its job.
 use Rattle.std.proofs.Common.{◌≡◌, ℕ, zero, suc, ◌+◌, ◌-◌, ◌<◌, ◌≤◌, Bool, true, false, IsTrue, List, [], ◌∷◌, ◌++◌, length, get_or, refl, sym, ap, subst, ◌∙◌, inl, inr, arith, true≢false}
+use Rattle.std.proofs.Math.Logic.{∥∥₁_elim}
+use native.Mathlib.Nat.{ℕ_set}
+use native.Mathlib.Bridge.{le_prop}
 use Rattle.std.proofs.lemmas.List.{length-map, get_or-map}
 use Rattle.bmp_math.specs.Lists.{Member, HasEachOnce}
 use Rattle.bmp_math.proofs.ListLemmas.{member_at}
@@ -14,11 +17,22 @@ use Rattle.bmp_weyl.proofs.ElementLemmas.{same_element, element_length-product}
 use Rattle.bmp_interval.specs.Intervals.{IsInterval}
 use Rattle.bmp_interval.proofs.IntervalLemmas.{only_longest}
 use Rattle.bmp_graph.specs.Graph.{Graph, vertex_count, length_at}
+use Rattle.bmp_graph.specs.Graph.{IsGraph, IsBefore}
 use Rattle.bmp_cover.specs.BradenMacPherson.{IsTopVertex}
+use Rattle.bmp_interval.specs.declared.interval.Interval.{Interval}
+use Rattle.bmp_cert.specs.declared.job.Job.{Job}
+use Rattle.bmp_cert.specs.declared.lattice.Lattice.{Lattice}
+use Rattle.bmp_cert.specs.declared.lattice.Lattice.TheVariants.{Plain, Root, Weight}
+use Rattle.bmp_cert.specs.Versions.{IsVersion, IsVersionOf}
+use Rattle.bmp_cert.specs.JobGraphs.{IsJobGraph, IsPrepared}
+use Rattle.bmp_cert.specs.JobRules.{HasPrime, rules, KeepsAll}
+use Rattle.bmp_cert.proofs.RuleLemmas.{keeps_prime, keeps_degree}
+use Rattle.bmp_cert.proofs.GraphLemmas.{prepared_graph}
 use Rattle.bmp_cert.specs.declared.cert.Cert.{Cert}
-use Rattle.bmp_cert.specs.CertGrammar.{HavePartLines}
+use Rattle.bmp_cert.specs.CertGrammar.{HavePartLines, IsWellFormed}
 use Rattle.bmp_cert.specs.Counts.{written_by}
-use Rattle.bmp_check.specs.Accepted.{IsAccepted, IsCheckable, AcceptedIsCheckable, top_vertex}
+use Rattle.bmp_check.specs.BlockData.{top_vertex}
+use Rattle.bmp_check.specs.Accepted.{IsAccepted, IsCheckableGraph, IsCheckable, AcceptedIsCheckable}
 
 -- ---- the greatest element of an interval
 
@@ -43,55 +57,96 @@ module _ (m : CartanMatrix) (roots : List Vector) (system : IsRootSystem m roots
         | inr shorter ↦ omega (arith, shorter, whole)
       ]
 
--- ---- the graph
+-- ---- the graph of a job
 
-module _ (G : Graph) (c : Cert) (accepted : IsAccepted G c) where
-  prime_is : G.prime ≡ c.job.prime
-  prime_is = accepted.graph.bruhat.prime
+module _ {j : Job} {G : Graph} (of : IsJobGraph j G) where
+  abbrev roots : List Vector
+  roots = positive_roots_of of.roots
 
-  length_is : (x : ℕ) (d : Elem) → x < length accepted.graph.vertices
-      → length_at G x ≡ element_length (positive_roots_of accepted.graph.roots) (get_or accepted.graph.vertices x d)
-  length_is x d within =
-      ap (λ (ls : List ℕ). get_or ls x 0) accepted.graph.bruhat.lengths ∙ get_or-map (element_length (positive_roots_of accepted.graph.roots)) accepted.graph.vertices x d 0 within
+  length_is : (x : ℕ) (d : Elem) → x < length of.vertices → length_at G x ≡ element_length roots (get_or of.vertices x d)
+  length_is x d within = ap (λ (ls : List ℕ). get_or ls x 0) of.bruhat.lengths ∙ get_or-map (element_length roots) of.vertices x d 0 within
 
-  count : vertex_count G ≡ length accepted.graph.vertices
-  count = ap length accepted.graph.bruhat.lengths ∙ length-map accepted.graph.vertices (element_length (positive_roots_of accepted.graph.roots))
+  count : vertex_count G ≡ length of.vertices
+  count = ap length of.bruhat.lengths ∙ length-map of.vertices (element_length roots)
 
   last_is_top : IsTopVertex G (top_vertex G)
   last_is_top =
-      let counted : vertex_count G ≡ length accepted.graph.vertices = count in
-      let some : 0 < vertex_count G = accepted.graph.graph.has_vertex in
+      let counted : vertex_count G ≡ length of.vertices = count in
+      let some : 0 < vertex_count G = of.graph.has_vertex in
       let none : Elem = record { rank = 0; entries = [] } in
       record {
         vertex = omega arith;
         longest = λ x within other.
             let low = length_is x none (omega arith) in
-            let high : length_at G (top_vertex G) ≡ element_length (positive_roots_of accepted.graph.roots) (get_or accepted.graph.vertices (length accepted.graph.vertices - 1) none) =
-            ap (λ n. length_at G (n - 1)) count ∙ length_is (length accepted.graph.vertices - 1) none (omega arith) in
+            let high : length_at G (top_vertex G) ≡ element_length roots (get_or of.vertices (length of.vertices - 1) none) =
+            ap (λ n. length_at G (n - 1)) count ∙ length_is (length of.vertices - 1) none (omega arith) in
             omega (
               arith,
               low,
               high,
-              last_is_longest (matrix_of accepted.graph.roots) (positive_roots_of accepted.graph.roots) (root_system accepted.graph.roots) (word_of c.job.word) accepted.graph.vertices accepted.graph.interval.interval x none (omega arith),
+              last_is_longest (matrix_of of.roots) roots (root_system of.roots) (word_of j.word) of.vertices of.interval.interval x none (omega arith),
             );
       }
 
-  checkable : IsCheckable G c.version (written_by c)
-  checkable =
-      let form = accepted.graph.roots.form in
-      let rank = accepted.graph.bruhat.rank in
-      let few = accepted.graph.interval.interval.few in
+  on_job : HasPrime j → IsCheckableGraph G
+  on_job prime =
+      let form = of.roots.form in
+      let rank = of.bruhat.rank in
+      let few = of.interval.interval.few in
       record {
-        version = accepted.formed.version;
-        graph = accepted.graph.graph;
-        prime = subst (λ p. IsTrue (is_listed p)) (sym prime_is) accepted.rules.0.prime;
+        graph = of.graph;
+        prime = subst (λ p. IsTrue (is_listed p)) (sym of.bruhat.prime) prime;
         some_variables = let least = form.at_least_one in omega (arith, least, rank);
         few_variables = let most = form.at_most_six in omega (arith, most, rank);
         few_vertices = omega (arith, few, count);
         last_is_top = last_is_top;
-        degree = accepted.rules.0.degree;
-        formed = subst (λ p. HavePartLines (p - 1) c.job.degree c.vertices) (sym prime_is) accepted.formed.vertices;
       }
 
+-- ---- a certificate
+
+known_version : (l : Lattice) (v : ℕ) → IsVersionOf l v → IsVersion v
+known_version Plain v h = (h.0, omega (arith, h.1))
+known_version Root v h = (omega (arith, h), omega (arith, h))
+known_version Weight v h = (omega (arith, h), omega (arith, h))
+
+checkable_on : (G : Graph) (c : Cert) → IsWellFormed c → IsCheckableGraph G → c.job.degree ≤ 6 → G.prime ≡ c.job.prime → IsCheckable G c.version (written_by c)
+checkable_on G c formed on degree prime = record {
+  version = known_version c.job.lattice c.version formed.version;
+  on = on;
+  degree = degree;
+  formed = subst (λ p. HavePartLines c.version (p - 1) c.job.degree c.vertices) (sym prime) formed.vertices;
+}
+
 pub accepted_is_checkable : AcceptedIsCheckable
-accepted_is_checkable G c accepted = checkable G c accepted
+accepted_is_checkable G c accepted =
+    checkable_on G c accepted.formed (on_job accepted.graph (keeps_prime c.job accepted.rules)) (keeps_degree c.job accepted.rules) accepted.graph.bruhat.prime
+
+-- ---- from what is kept with an accepted job
+
+before_prop : (g : Graph) (d e : ℕ) → IsProp (IsBefore g d e)
+before_prop g d e (inl p) (inl q) = ap inl (le_prop p q)
+before_prop g d e (inl p) (inr q) = absurd (omega (arith, p, q.0))
+before_prop g d e (inr p) (inl q) = absurd (omega (arith, q, p.0))
+before_prop g d e (inr p) (inr q) = ap inr (hlevel (le_prop, ℕ_set) p q)
+
+graph_prop : (g : Graph) → IsProp (IsGraph g)
+graph_prop g = hlevel (le_prop, ℕ_set, before_prop)
+
+true_prop : (b : Bool) → IsProp (IsTrue b)
+true_prop b = hlevel (Bool_set)
+
+top_prop : (g : Graph) (x : ℕ) → IsProp (IsTopVertex g x)
+top_prop g x = hlevel (le_prop)
+
+checkable_prop : (g : Graph) → IsProp (IsCheckableGraph g)
+checkable_prop g = hlevel (le_prop, graph_prop, true_prop, top_prop)
+
+pub job_is_checkable :
+    (c : Cert) (interval : Interval) (G : Graph) → IsWellFormed c → ∥ IsPrepared c.job interval G ∥₁ → ∥ KeepsAll rules c.job ∥₁ →
+    IsCheckable G c.version (written_by c)
+job_is_checkable c interval G formed prepared keeps =
+    let of : IsPrepared c.job interval G → IsJobGraph c.job G = prepared_graph c.job interval G in
+    checkable_on G c formed
+    (∥∥₁_elim prepared (checkable_prop G) (λ p. ∥∥₁_elim keeps (checkable_prop G) (λ k. on_job (of p) (keeps_prime c.job k))))
+    (∥∥₁_elim keeps le_prop (λ k. keeps_degree c.job k))
+    (∥∥₁_elim prepared (ℕ_set G.prime c.job.prime) (λ p. p.bruhat.prime))

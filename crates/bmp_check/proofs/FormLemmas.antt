@@ -12,7 +12,7 @@ use Rattle.bmp_cert.specs.VectorGrammar.{MOST, IsEntry, behind_place, IsVector, 
 use Rattle.bmp_cert.specs.BlockGrammar.{IsBlock}
 use Rattle.bmp_cert.specs.CertGrammar.{from_degree, step_up, step_down, AreDegrees, IsTop, IsPart, IsPartAt, HavePartLines}
 use Rattle.bmp_cert.proofs.RowLemmas.{all_from_chain}
-use Rattle.bmp_check.specs.Sizes.{no_block}
+use Rattle.bmp_check.specs.BlockData.{no_block}
 
 -- ---- a member of a chain
 
@@ -39,29 +39,29 @@ chosen_one b P Q is h = subst (λ (t : Bool). Chosen t P Q) is h
 
 -- ---- the parts
 
-module _ (most : ℕ) (c : Written) (formed : HavePartLines most c.degree c.parts) where
+module _ (most : ℕ) (c : Written) {v : ℕ} (formed : HavePartLines v most c.degree c.parts) where
   abbrev last : ℕ
   last = length c.parts - 1
 
-  formed_at : (x : ℕ) → x < length c.parts → IsPartAt last most c.degree x (part_of c x)
+  formed_at : (x : ℕ) → x < length c.parts → IsPartAt v last most c.degree x (part_of c x)
   formed_at x within =
       let same : last - (last - x) ≡ x = omega arith in
-      subst (λ (y : ℕ). IsPartAt last most c.degree y (part_of c x)) same
-      (chain_down (IsPartAt last most c.degree) c.parts last (last - x) no_part formed.parts.1 (omega arith))
+      subst (λ (y : ℕ). IsPartAt v last most c.degree y (part_of c x)) same
+      (chain_down (IsPartAt v last most c.degree) c.parts last (last - x) no_part formed.parts.1 (omega arith))
 
-  pub part_formed : (x : ℕ) → x + 1 < length c.parts → IsPart most c.degree x (part_of c x)
+  pub part_formed : (x : ℕ) → x + 1 < length c.parts → IsPart v most c.degree x (part_of c x)
   part_formed x within =
-      chosen_other (eqb x last) (IsTop c.degree (part_of c x)) (IsPart most c.degree x (part_of c x)) (ne_eqb x last (λ same. omega arith)) (formed_at x (omega arith))
+      chosen_other (eqb x last) (IsTop c.degree (part_of c x)) (IsPart v most c.degree x (part_of c x)) (ne_eqb x last (λ same. omega arith)) (formed_at x (omega arith))
 
   pub top_formed : IsTop c.degree (part_of c last)
   top_formed =
       let some = formed.some in
-      chosen_one (eqb last last) (IsTop c.degree (part_of c last)) (IsPart most c.degree last (part_of c last)) (eq-eqb last last refl) (formed_at last (omega arith))
+      chosen_one (eqb last last) (IsTop c.degree (part_of c last)) (IsPart v most c.degree last (part_of c last)) (eq-eqb last last refl) (formed_at last (omega arith))
 
   pub degrees_formed : (x : ℕ) → x < length c.parts → AreDegrees c.degree (part_of c x).degrees
   degrees_formed x within = either (eqb x last) (formed_at x within)
     where
-      either : (b : Bool) → Chosen b (IsTop c.degree (part_of c x)) (IsPart most c.degree x (part_of c x)) → AreDegrees c.degree (part_of c x).degrees
+      either : (b : Bool) → Chosen b (IsTop c.degree (part_of c x)) (IsPart v most c.degree x (part_of c x)) → AreDegrees c.degree (part_of c x).degrees
       either true h = h.0
       either false h = h.degrees
 
@@ -98,7 +98,7 @@ pivots_rise n ps h = places_rise ps 0 h.1
 
 -- ---- blocks
 
-pub block_formed : (most count : ℕ) (at : ℕ → ℕ) (bs : List DegreeBlock) (d : ℕ) → (length bs ≡ count) × ChainFits (IsBlock most at) step_up 0 bs → d < count → IsBlock most at d (get_or bs d no_block)
-block_formed most count at bs d h within =
+pub block_formed : {v : ℕ} (most count : ℕ) (at : ℕ → ℕ) (bs : List DegreeBlock) (d : ℕ) → (length bs ≡ count) × ChainFits (IsBlock v most at) step_up 0 bs → d < count → IsBlock v most at d (get_or bs d no_block)
+block_formed {v = v} most count at bs d h within =
     let same : 0 + d ≡ d = omega arith in
-    subst (λ (e : ℕ). IsBlock most at e (get_or bs d no_block)) same (chain_up (IsBlock most at) bs 0 d no_block h.1 (omega (arith, h.0)))
+    subst (λ (e : ℕ). IsBlock v most at e (get_or bs d no_block)) same (chain_up (IsBlock v most at) bs 0 d no_block h.1 (omega (arith, h.0)))

@@ -48,7 +48,7 @@ some_below : (m k i : ℕ) → i < m * k → 0 < k
 some_below m zero i below = let none : m * 0 ≡ 0 = grind arith in absurd (omega (arith, none, below))
 some_below m (suc k) i below = omega arith
 
-lift_at : (part : VertexPart) (most degree x from to i : ℕ) → IsPart most degree x part → part.edges ≡ to - from → i < length part.lifts → LiftAt part degree from to i
+lift_at : {v : ℕ} (part : VertexPart) (most degree x from to i : ℕ) → IsPart v most degree x part → part.edges ≡ to - from → i < length part.lifts → LiftAt part degree from to i
 lift_at part most degree x from to i formed edges within =
     let k = length part.degrees in
     let below : i < part.edges * k = omega (arith, formed.lifts.0, within) in
@@ -65,7 +65,7 @@ pub record StandsIn (sizes : List Size) (i : ℕ) (size : Size) : Type 0 where
   pub within : i < length sizes
   pub read : size ≡ get_or sizes i size
 
-module _ (G : Graph) (c : Written) (t : SizeTable) (x from to : ℕ) (part : VertexPart) (ready : IsReady G c t) (graph : IsGraph G) (range : IsUpRange G x from to) (vertex : x + 1 < vertex_count G) (is_part : part ≡ part_of c x) where
+module _ (G : Graph) (c : Written) (t : SizeTable) (x from to : ℕ) (part : VertexPart) {v : ℕ} (ready : IsReady G v c t) (graph : IsGraph G) (range : IsUpRange G x from to) (vertex : x + 1 < vertex_count G) (is_part : part ≡ part_of c x) where
   -- what holds of the size of the edges, from the numbers at hand
   pub edges_as : (P : List Size → Type 0) (m n : ℕ) → m ≡ part.edges → n ≡ to - from → P (is m n ∷ []) → P (is (part_of c x).edges (up_count G x) ∷ [])
   edges_as P m n left right h =
@@ -75,7 +75,7 @@ module _ (G : Graph) (c : Written) (t : SizeTable) (x from to : ℕ) (part : Ver
     pub lift_here : LiftAt part c.degree from to i
     lift_here =
         lift_at part (G.prime - 1) c.degree x from to i
-        (subst (IsPart (G.prime - 1) c.degree x) (sym is_part) (part_formed (G.prime - 1) c ready.formed x (omega (arith, vertex, ready.vertices)))) edges within
+        (subst (IsPart v (G.prime - 1) c.degree x) (sym is_part) (part_formed (G.prime - 1) c ready.formed x (omega (arith, vertex, ready.vertices)))) edges within
 
     -- the size of a lift from its need and its room
     pub lift_stands :

@@ -20,6 +20,7 @@ use Rattle.bmp_sheaf.specs.declared.fault.SheafFault.{SheafFault}
 use Rattle.bmp_sheaf.specs.declared.fault.SheafFault.TheVariants.{DegreeOrder, DegreeOverBound, LiftShape, Memory}
 use Rattle.bmp_cert.specs.Counts.{Written, no_part, part_of}
 use Rattle.bmp_cert.specs.declared.cert.VertexPart.{VertexPart}
+use Rattle.bmp_check.specs.declared.method.Method.{Method}
 use Rattle.bmp_check.specs.Accepted.{IsCheckable}
 use Rattle.bmp_check.specs.Fits.{DegreesFit, ShapesFit}
 use Rattle.bmp_check.specs.Shaped.{cert_stalk}
@@ -53,7 +54,7 @@ no_edges_up G is x last =
     ∙ sum_below-zeros (edge_count G)
 
 module _
-    {F : Type 0} (s : SheafState F) (c : Written) (checkable : IsCheckable s.graph 1 c) (counted : CountPasses s.graph c) (fits : ShapesFit s.graph c)
+    {F : Type 0} (s : SheafState F) (c : Written) {v : ℕ} {m : Method} (checkable : IsCheckable s.graph v c) (counted : CountPasses s.graph c) (fits : ShapesFit s.graph m c)
     (degree : s.degree ≡ c.degree) (i : ℕ) (stalks : s.stalks ≡ map cert_stalk (take i c.parts)) (more : i < length c.parts) where
   abbrev G : Graph
   G = s.graph
@@ -102,7 +103,7 @@ module _
   counts_lifts : HasLifts s x part.degrees part.lifts
   counts_lifts = elim (cases_eq i 0) [
     | inl top ↦
-        let none : up_count G x ≡ 0 = no_edges_up G checkable.graph x (omega (arith, vertex, top, counted)) in
+        let none : up_count G x ≡ 0 = no_edges_up G checkable.on.graph x (omega (arith, vertex, top, counted)) in
         let product : up_count G x * length part.degrees ≡ 0 = ap (λ m. m * length part.degrees) none ∙ omega arith in
         ap length (top_lifts top) ∙ sym product
     | inr other ↦ (fits.vertices x (omega (arith, vertex, other, counted, more))).lift_for_each
@@ -118,11 +119,11 @@ module _
         let some : 0 < k = positive (up_count G x) k j all in
         let place : j / k < up_count G x = div_below j k (up_count G x) some all in
         let e = first_edge G x + j / k in
-        let range = up_range_of G checkable.graph x in
+        let range = up_range_of G checkable.on.graph x in
         let is_edge : e < edge_count G = omega (arith, range.within, place) in
         let starts : lower G e ≡ x = range.inside e (omega arith) (omega (arith, place)) in
-        let rises : lower G e < upper G e = edge_rises G checkable.graph e is_edge in
-        let stalk = above_is (upper G e) (omega (arith, rises, starts)) (checkable.graph.ends e is_edge).1 in
+        let rises : lower G e < upper G e = edge_rises G checkable.on.graph e is_edge in
+        let stalk = above_is (upper G e) (omega (arith, rises, starts)) (checkable.on.graph.ends e is_edge).1 in
         subst (λ (t : Stalk). FitsBelow (get_or part.lifts j []) (stalk_count G.rank t.degrees (get_or part.degrees (j % k) 0))) (sym stalk) (fit.lifts j within).fits
   ]
     where

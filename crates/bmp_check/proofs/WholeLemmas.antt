@@ -3,23 +3,24 @@ use Rattle.std.proofs.Common.{◌≡◌, ℕ, subst, inr}
 use Rattle.bmp_graph.specs.Graph.{Graph}
 use Rattle.bmp_cert.specs.Counts.{Written}
 use Rattle.bmp_check.specs.declared.refusal.Refusal.{Refusal}
-use Rattle.bmp_check.specs.Verdicts.{HasBlock, BlockPasses, CountPasses, ShapePasses, TopPasses, Passes, IsFirstBlockRefusal, IsFirstRefusal}
+use Rattle.bmp_check.specs.Methods.{method_of}
+use Rattle.bmp_check.specs.Verdicts.{BlocksPass, CountPasses, ShapePasses, TopPasses, Passes, IsFirstBlockRefusal, IsFirstRefusal}
 
-abbrev BlocksPass : Graph → Written → Type 0
-BlocksPass G c = (x d : ℕ) → HasBlock G c x d → BlockPasses G 1 c x d
+-- H, w and e are the graph, the version and the parts of the blocks
+module _ (G : Graph) (v : ℕ) (c : Written) {H : Graph} {w : ℕ} {e : Written} (graph : H ≡ G) (version : w ≡ v) (cert : e ≡ c) where
+  -- what holds of the parts of the blocks
+  as_given : (P : Graph → ℕ → Written → Type 0) → P H w e → P G v c
+  as_given P h = subst (λ (d : Written). P G v d) cert (subst (λ (n : ℕ). P G n e) version (subst (λ (K : Graph). P K w e) graph h))
 
--- H and e are the graph and the certificate of the blocks
-pub all_pass : (G : Graph) (c : Written) (H : Graph) (e : Written) → H ≡ G → e ≡ c → CountPasses G c → ShapePasses G 1 c → TopPasses G c → BlocksPass H e → Passes G 1 c
-all_pass G c H e graph cert count shape top blocks = record {
-  count = count;
-  shape = shape;
-  top = top;
-  blocks = subst (λ (d : Written). BlocksPass G d) cert (subst (λ (K : Graph). BlocksPass K e) graph blocks);
-}
+  pub all_pass : CountPasses G c → ShapePasses G (method_of v) c → TopPasses G c → BlocksPass H (method_of w) e → Passes G v c
+  all_pass count shape top blocks = record {
+    count = count;
+    shape = shape;
+    top = top;
+    blocks = as_given (λ (K : Graph) (n : ℕ) (d : Written). BlocksPass K (method_of n) d) blocks;
+  }
 
-pub block_refused :
-    (G : Graph) (c : Written) (H : Graph) (e : Written) (r : Refusal) → H ≡ G → e ≡ c →
-    CountPasses G c → ShapePasses G 1 c → TopPasses G c → IsFirstBlockRefusal H 1 e r → IsFirstRefusal G 1 c r
-block_refused G c H e r graph cert count shape top first =
-    let on_graph : IsFirstBlockRefusal G 1 e r = subst (λ (K : Graph). IsFirstBlockRefusal K 1 e r) graph first in
-    inr (count, inr (shape, inr (top, subst (λ (d : Written). IsFirstBlockRefusal G 1 d r) cert on_graph)))
+  pub block_refused :
+      (r : Refusal) → CountPasses G c → ShapePasses G (method_of v) c → TopPasses G c → IsFirstBlockRefusal H (method_of w) e r → IsFirstRefusal G v c r
+  block_refused r count shape top first =
+      inr (count, inr (shape, inr (top, as_given (λ (K : Graph) (n : ℕ) (d : Written). IsFirstBlockRefusal K (method_of n) d r) first)))

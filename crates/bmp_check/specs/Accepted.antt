@@ -1,8 +1,7 @@
 -- What can be checked, and what passing gives. In the order to read:
---   IsVersion v         the evidence has a version that is known
---   top_vertex G        the greatest vertex
---   IsCheckable G v c   G is a moment graph over a field of the list, of rank 1 to 6 and at most 4,096 vertices, whose last vertex
---                       alone is the longest; the degree bound is at most 6, and the parts have lines
+--   IsCheckableGraph G  G is a moment graph over a field of the list, of rank 1 to 6 and at most 4,096 vertices, whose last vertex
+--                       alone is the longest
+--   IsCheckable G v c   the parts of c have lines of the version v, which is 1, 2 or 3, on such a graph, up to a degree of at most 6
 --   PassedIsBradenMacPherson
 --                       where no comparison fails, the sheaf that is written is a Braden-MacPherson sheaf up to the degree bound
 --   PassedGeneratorsAreBounded
@@ -21,28 +20,27 @@ use Rattle.bmp_cover.specs.Counts.{CountsAreDimensions}
 use Rattle.bmp_cert.specs.declared.cert.Cert.{Cert}
 use Rattle.bmp_cert.specs.CertGrammar.{HavePartLines, IsWellFormed}
 use Rattle.bmp_cert.specs.Counts.{Written, written_by}
+use Rattle.bmp_cert.specs.Versions.{IsVersion}
 use Rattle.bmp_cert.specs.JobGraphs.{IsJobGraph}
-use Rattle.bmp_cert.specs.JobRules.{KeepsRules}
+use Rattle.bmp_cert.specs.JobRules.{rules, KeepsAll}
 use Rattle.bmp_check.specs.declared.refusal.Refusal.{Refusal}
+use Rattle.bmp_check.specs.BlockData.{top_vertex}
 use Rattle.bmp_check.specs.PartsSheaf.{parts_sheaf}
 use Rattle.bmp_check.specs.Verdicts.{Passes, IsFirstRefusal}
 
-abbrev pub IsVersion : ℕ → Type 0
-IsVersion v = v ≡ 1
-
-abbrev pub top_vertex : Graph → ℕ
-top_vertex G = vertex_count G - 1
-
-pub record IsCheckable (G : Graph) (v : ℕ) (c : Written) : Type 0 where
-  pub version : IsVersion v
+pub record IsCheckableGraph (G : Graph) : Type 0 where
   pub graph : IsGraph G
   pub prime : IsTrue (is_listed G.prime)
   pub some_variables : 1 ≤ G.rank
   pub few_variables : G.rank ≤ 6
   pub few_vertices : vertex_count G ≤ 4096
   pub last_is_top : IsTopVertex G (top_vertex G)
+
+pub record IsCheckable (G : Graph) (v : ℕ) (c : Written) : Type 0 where
+  pub version : IsVersion v
+  pub on : IsCheckableGraph G
   pub degree : c.degree ≤ 6
-  pub formed : HavePartLines (G.prime - 1) c.degree c.parts
+  pub formed : HavePartLines v (G.prime - 1) c.degree c.parts
 
 abbrev pub PassedIsBradenMacPherson : Type 0
 PassedIsBradenMacPherson = (G : Graph) (v : ℕ) (c : Written) → IsCheckable G v c → Passes G v c → IsBradenMacPherson G (parts_sheaf G c) c.degree (top_vertex G)
@@ -58,7 +56,7 @@ NoneFailsBesidePasses = (G : Graph) (v : ℕ) (c : Written) (r : Refusal) → Pa
 
 pub record IsAccepted (G : Graph) (c : Cert) : Type 0 where
   pub formed : IsWellFormed c
-  pub rules : KeepsRules c.job
+  pub rules : KeepsAll rules c.job
   pub graph : IsJobGraph c.job G
 
 abbrev pub AcceptedIsCheckable : Type 0

@@ -2,8 +2,10 @@
 --   IsVectorIn p n v       places that rise and are below n, and numbers below p other than 0
 --   DegreesFit D es        degrees that never fall, at most D
 --   VertexFits G c x       a part whose lifts are in the stalks at the upper ends of its edges
---   BlockFits G c x d      a block whose evidence is in the numbers of positions, equations and coordinates
---   ShapesFit G c          all of this, at each vertex and degree
+--   EvidenceIn p n t b     a block whose evidence is in the numbers n of rows, columns, sections and coordinates, with a source and a
+--                          dual form for each of t generators
+--   BlockFits G m c x d    the block of x and d is one
+--   ShapesFit G m c        all of this, at each vertex and degree
 --   ShapeGivesFits         so it is where all sizes pass
 use Rattle.std.specs.Prelude.{◌≡◌, ℕ, ◌+◌, ◌-◌, ◌*◌, ◌/◌, ◌%◌, ◌^◌, ◌<◌, ◌≤◌, List, [], length, slice_index, slice_index_or, All}
 use Rattle.std.specs.List.Sorted.{IsNonDecreasing}
@@ -17,8 +19,10 @@ use Rattle.bmp_sheaf.specs.Written.{first_edge, up_count}
 use Rattle.bmp_cert.specs.Counts.{Written, part_of, generator_count}
 use Rattle.bmp_cert.specs.CertGrammar.{HavePartLines}
 use Rattle.bmp_check.specs.declared.sizes.BlockSizes.{BlockSizes}
-use Rattle.bmp_check.specs.PartsSheaf.{parts_sheaf}
-use Rattle.bmp_check.specs.Sizes.{counts_at, largest, block_of}
+use Rattle.bmp_check.specs.declared.method.Method.{Method}
+use Rattle.bmp_check.specs.Methods.{method_of}
+use Rattle.bmp_check.specs.BlockData.{block_of}
+use Rattle.bmp_check.specs.Sizes.{counts_at, largest}
 use Rattle.bmp_check.specs.Verdicts.{HasBlock, CountPasses, ShapePasses}
 
 pub record IsVectorIn (p n : ℕ) (v : List Entry) : Type 0 where
@@ -41,32 +45,28 @@ pub record VertexFits (G : Graph) (c : Written) (x : ℕ) : Type 0 where
       (stalk_count G.rank (part_of c (upper G (first_edge G x + i / k))).degrees (slice_index (part_of c x).degrees (i % k)))
       (slice_index_or (part_of c x).lifts i [])
 
-module _ (G : Graph) (c : Written) (x d : ℕ) where
-  abbrev block : DegreeBlock
-  block = block_of c x d
+pub record EvidenceIn (p : ℕ) (n : BlockSizes) (t : ℕ) (b : DegreeBlock) : Type 0 where
+  pub kernel : EvidenceFits b.kernel n.rows n.columns
+  pub kernel_below : EvidenceBelow b.kernel p
+  pub basis_sparse : All IsSparse b.kernel.basis
+  pub rows_sparse : All IsSparse b.kernel.rows
+  pub cover_for_each : length b.cover.covers ≡ n.tuples
+  pub source_for_each : length b.cover.sources ≡ t
+  pub dual_for_each : length b.cover.duals ≡ t
+  pub covers : All (IsVectorIn p n.stalk) b.cover.covers
+  pub sources : All (IsVectorIn p n.tuples) b.cover.sources
+  pub duals : All (IsVectorIn p n.boundary) b.cover.duals
+  pub few : largest n < 2 ^ 32
 
-  abbrev n : BlockSizes
-  n = counts_at G (parts_sheaf G c) x d
+abbrev pub BlockFits : Graph → Method → Written → ℕ → ℕ → Type 0
+BlockFits G m c x d = EvidenceIn G.prime (counts_at G m c x d) (generator_count c x d) (block_of c x d)
 
-  -- there are as many sources and dual forms as generators of degree d
-  pub record BlockFits : Type 0 where
-    pub there : d < length (part_of c x).blocks
-    pub kernel : EvidenceFits block.kernel n.equations n.positions
-    pub kernel_below : EvidenceBelow block.kernel G.prime
-    pub basis_sparse : All IsSparse block.kernel.basis
-    pub rows_sparse : All IsSparse block.kernel.rows
-    pub cover_for_each : length block.cover.covers ≡ length block.kernel.basis
-    pub source_for_each : length block.cover.sources ≡ generator_count c x d
-    pub dual_for_each : length block.cover.duals ≡ generator_count c x d
-    pub covers : All (IsVectorIn G.prime n.stalk) block.cover.covers
-    pub sources : All (IsVectorIn G.prime (length block.kernel.basis)) block.cover.sources
-    pub duals : All (IsVectorIn G.prime n.boundary) block.cover.duals
-    pub few : largest n < 2 ^ 32
-
-pub record ShapesFit (G : Graph) (c : Written) : Type 0 where
+pub record ShapesFit (G : Graph) (m : Method) (c : Written) : Type 0 where
   pub top : DegreesFit c.degree (part_of c (vertex_count G - 1)).degrees
   pub vertices : (x : ℕ) → x + 1 < vertex_count G → VertexFits G c x
-  pub blocks : (x d : ℕ) → HasBlock G c x d → BlockFits G c x d
+  pub there : (x d : ℕ) → HasBlock G c x d → d < length (part_of c x).blocks
+  pub blocks : (x d : ℕ) → HasBlock G c x d → BlockFits G m c x d
 
 abbrev pub ShapeGivesFits : Type 0
-ShapeGivesFits = (G : Graph) (c : Written) → HavePartLines (G.prime - 1) c.degree c.parts → CountPasses G c → ShapePasses G 1 c → ShapesFit G c
+ShapeGivesFits = (G : Graph) (v : ℕ) (c : Written) → HavePartLines v (G.prime - 1) c.degree c.parts → CountPasses G c →
+    ShapePasses G (method_of v) c → ShapesFit G (method_of v) c

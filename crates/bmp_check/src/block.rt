@@ -1,82 +1,89 @@
 //! The check of one block.
 ghost use Rattle.std.specs.Prelude.{◌≡◌, ◌≢◌, OnOk, IfErr, length};
-ghost use Rattle.bmp_graph.specs.Graph.{Graph};
-ghost use Rattle.bmp_cert.specs.Counts.{Written};
-ghost use Rattle.bmp_check.specs.Shaped.{IsRoomFor};
-ghost use Rattle.bmp_check.specs.ShapedViews.{graph_in, cert_in, IsWhole};
-ghost use Rattle.bmp_check.specs.Sizes.{block_of};
-ghost use Rattle.bmp_check.specs.Verdicts.{HasBlock, BlockPasses, IsBlockRefusal, kernel_refusal, cover_refusal};
+ghost use Rattle.bmp_check.specs.declared.method.Method.TheVariants.{Spaces, Levels};
+ghost use Rattle.bmp_check.specs.NumberedBlocks.{HasNumbered, PassesAt, IsRefusalAt};
+ghost use Rattle.bmp_check.specs.Settings.{HoldsFamilies, shaped_in, IsSet};
+ghost use Rattle.bmp_check.specs.Shaped.{HasWidth, IsRoomFor};
+ghost use Rattle.bmp_check.specs.ShapedViews.{graph_in, method_at, cert_in, IsWhole};
+ghost use Rattle.bmp_check.specs.Verdicts.{HasBlock, BlockPasses, IsBlockRefusal};
 
+use crate::blocks::block_at;
+use crate::evidence::{check_cover_at, check_kernel_at};
+use crate::method::Method;
 use crate::part::{block_of, part_of};
 use crate::refusal::Refusal;
 use crate::scratch::BlockScratch;
+use crate::setting::Setting;
 use crate::shaped::Shaped;
-use bmp_cover::{CoverFault, Kind, check_cover};
-use bmp_linear::{RowFault, check_kernel};
+use bmp_levels::Family;
+use bmp_linear::Scratch;
 use bmp_sections::{Equations, Tuples};
+use bmp_sheaf::BoundaryRows;
 
-/// The refusal of a comparison of kernel evidence with so many tuples, which come before the combinations of the equations.
-fn kernel_refusal(x: u32, d: u32, tuples: u64, fault: RowFault) -> Refusal
-    ensures { (G : Graph) (c : Written) → tuples ≡ length (block_of c x d).kernel.basis → result ≡ kernel_refusal G c x d fault }
-{
-    let (kind, index) = if fault.index < tuples {
-        (Kind::Section, fault.index)
-    } else {
-        (Kind::Row, fault.index - tuples)
-    };
-    Refusal {
-        vertex: x,
-        degree: d,
-        kind,
-        index,
-        place: fault.place,
-        left: u64::from(fault.left),
-        right: u64::from(fault.right),
-    }
-}
-
-/// The refusal of a comparison of cover evidence.
-fn cover_refusal(x: u32, d: u32, fault: CoverFault) -> Refusal
-    ensures { (G : Graph) (c : Written) → result ≡ cover_refusal G c x d fault }
-{
-    Refusal {
-        vertex: x,
-        degree: d,
-        kind: fault.kind,
-        index: fault.index,
-        place: fault.place,
-        left: u64::from(fault.left),
-        right: u64::from(fault.right),
-    }
-}
-
-/// Makes the comparisons of the block of a vertex and a degree, of kinds Section, Row, Cover, Source and Dual in this order. A refusal
-/// is the first that fails. Takes no memory, and whatever the scratch holds before, the answer is the same.
-pub fn check_block(s: &Shaped, x: u32, d: u32, scratch: &mut BlockScratch) -> Result<(), Refusal>
+/// Makes the comparisons of a block by whole spaces: of kinds Section and Row with the edge equations over the vertices above its
+/// vertex, and then of kinds Cover, Source and Dual with the sections of its own kernel evidence.
+fn check_by_spaces(s: &Shaped, x: u32, d: u32, scratch: &mut BlockScratch) -> Result<(), Refusal>
     requires whole { IsWhole s.now }
+    requires method { method_at s.now ≡ Spaces }
     requires block { HasBlock (graph_in s.now) (cert_in s.now) x d }
-    requires room { IsRoomFor (graph_in s.now) (cert_in s.now) scratch.old }
-    ensures ok { OnOk result (BlockPasses (graph_in s.now) 1 (cert_in s.now) x d) }
-    ensures first { IfErr result (IsBlockRefusal (graph_in s.now) 1 (cert_in s.now) x d) }
+    requires room { IsRoomFor (graph_in s.now) (method_at s.now) (cert_in s.now) scratch.old }
+    ensures ok { OnOk result (BlockPasses (graph_in s.now) (method_at s.now) (cert_in s.now) x d) }
+    ensures first { IfErr result (IsBlockRefusal (graph_in s.now) (method_at s.now) (cert_in s.now) x d) }
     ensures differ { IfErr result (λ r. r.left ≢ r.right) }
-    ensures room { IsRoomFor (graph_in s.now) (cert_in s.now) scratch.new }
+    ensures room { IsRoomFor (graph_in s.now) (method_at s.now) (cert_in s.now) scratch.new }
 {
     let sheaf = s.sheaf();
-    let _graph = sheaf.graph();
     let block = block_of(part_of(s.given(), x), d);
     scratch.index.fill(sheaf, x, d);
     let equations = Equations::over(sheaf, x, d, &scratch.index);
-    if let Err(fault) = check_kernel(
-        sheaf.field(),
-        &equations,
-        &block.kernel,
-        &mut scratch.numbers,
-    ) {
-        return Err(kernel_refusal(x, d, u64::from(block.kernel.basis.len()), fault));
-    }
+    check_kernel_at(s, x, d, &equations, &mut scratch.numbers)?;
     let tuples = Tuples::over(sheaf, x, d, &scratch.index, &block.kernel.basis);
-    match check_cover(sheaf, x, d, &tuples, &block.cover, &mut scratch.numbers) {
-        Ok(()) => Ok(()),
-        Err(fault) => Err(cover_refusal(x, d, fault)),
+    check_cover_at(s, x, d, &tuples, &mut scratch.numbers)
+}
+
+/// Makes the comparisons of a block by levels: of kinds Cover, Source and Dual with the members of the family over the longer
+/// vertices, which are the first of those of a family over all vertices; and then of kind Kernel with the boundary map at its
+/// vertex.
+fn check_by_levels(
+    s: &Shaped,
+    family: &Family,
+    x: u32,
+    d: u32,
+    numbers: &mut Scratch,
+) -> Result<(), Refusal>
+    requires whole { IsWhole s.now }
+    requires method { method_at s.now ≡ Levels }
+    requires family { HoldsFamilies (graph_in s.now) (cert_in s.now) d family.now }
+    requires block { HasBlock (graph_in s.now) (cert_in s.now) x d }
+    requires width { HasWidth (graph_in s.now) (method_at s.now) (cert_in s.now) (length numbers.old.first) }
+    ensures ok { OnOk result (BlockPasses (graph_in s.now) (method_at s.now) (cert_in s.now) x d) }
+    ensures first { IfErr result (IsBlockRefusal (graph_in s.now) (method_at s.now) (cert_in s.now) x d) }
+    ensures differ { IfErr result (λ r. r.left ≢ r.right) }
+    ensures width { length numbers.new.first ≡ length numbers.old.first }
+{
+    let sheaf = s.sheaf();
+    let block = block_of(part_of(s.given(), x), d);
+    let members = family.members(block.cover.covers.len());
+    check_cover_at(s, x, d, &members, numbers)?;
+    let boundary = BoundaryRows::of(sheaf, x, d);
+    check_kernel_at(s, x, d, &boundary, numbers)
+}
+
+/// Makes the comparisons of the block number `i`, kind after kind. A refusal is the first that fails. Takes no memory, and whatever
+/// the scratch holds before, the answer is the same.
+pub fn check_block(s: &Setting, i: u32, scratch: &mut BlockScratch) -> Result<(), Refusal>
+    requires set { IsSet s.now }
+    requires block { HasNumbered (shaped_in s.now) i }
+    requires room { let shaped = shaped_in s.now in IsRoomFor (graph_in shaped) (method_at shaped) (cert_in shaped) scratch.old }
+    ensures ok { OnOk result (PassesAt (shaped_in s.now) i) }
+    ensures first { IfErr result (IsRefusalAt (shaped_in s.now) i) }
+    ensures differ { IfErr result (λ r. r.left ≢ r.right) }
+    ensures room { let shaped = shaped_in s.now in IsRoomFor (graph_in shaped) (method_at shaped) (cert_in shaped) scratch.new }
+{
+    let shaped = s.shaped();
+    let (x, d) = block_at(shaped.graph().vertices(), shaped.given().degree, i);
+    match shaped.given().method() {
+        Method::Spaces => check_by_spaces(shaped, x, d, scratch),
+        Method::Levels => check_by_levels(shaped, s.family(d), x, d, &mut scratch.numbers),
     }
 }

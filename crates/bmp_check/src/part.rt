@@ -1,7 +1,7 @@
 //! The parts of a certificate, by vertex and degree.
 ghost use Rattle.std.specs.Prelude.{◌≡◌, ◌<◌, length, slice_index_or};
 ghost use Rattle.bmp_cert.specs.Counts.{part_of};
-ghost use Rattle.bmp_check.specs.Sizes.{no_block};
+ghost use Rattle.bmp_check.specs.BlockData.{no_block};
 ghost use Rattle.bmp_check.specs.ShapedViews.{written_in};
 
 use crate::given::Given;

@@ -1,47 +1,51 @@
 //! Room to work in for the check of blocks.
-ghost use Rattle.std.specs.Prelude.{◌≡◌, ℕ, ◌≤◌, ◌<◌, IfOk};
+ghost use Rattle.std.specs.Prelude.{◌≡◌, ℕ, ◌≤◌, ◌<◌, IfOk, length};
 ghost use Rattle.bmp_graph.specs.Graph.{vertex_count};
 ghost use Rattle.bmp_sheaf.specs.Coordinates.{stalk_count, boundary_count};
+ghost use Rattle.bmp_check.specs.declared.method.Method.TheVariants.{Spaces};
 ghost use Rattle.bmp_check.specs.Shaped.{IsRoomFor};
-ghost use Rattle.bmp_check.specs.ShapedViews.{graph_in, cert_in, IsWhole};
+ghost use Rattle.bmp_check.specs.ShapedViews.{graph_in, method_at, cert_in, IsWhole};
 ghost use Rattle.bmp_check.specs.PartsSheaf.{parts_sheaf};
 ghost use Rattle.bmp_check.specs.Sizes.{counts_at, largest};
 ghost use Rattle.bmp_check.specs.Verdicts.{HasBlock};
 
 use crate::blocks::{block_at, block_count};
+use crate::method::Method;
 use crate::shaped::Shaped;
 use bmp_linear::Scratch;
 use bmp_sections::SectionIndex;
 use std::alloc::{AllocError, Global};
 
-/// Room for the check of any block of a certificate: where its positions and equations stand, and two rows of numbers.
+/// Room for the check of any block of a certificate: where its positions and equations stand by whole spaces, and two rows of
+/// numbers.
 #[derive(Debug, Drop)]
 pub struct BlockScratch {
     pub index: SectionIndex,
     pub numbers: Scratch,
 }
 
-/// The most equations of a block, and the largest of all sizes of blocks.
+/// The most rows of a block, and the largest of all sizes of blocks.
 fn block_room(s: &Shaped) -> (u64, u64)
     requires { IsWhole s.now }
-    ensures equations { let G = graph_in s.now in let c = cert_in s.now in
-        (x d : ℕ) → HasBlock G c x d → (counts_at G (parts_sheaf G c) x d).equations ≤ result.0 }
-    ensures sizes { let G = graph_in s.now in let c = cert_in s.now in
-        (x d : ℕ) → HasBlock G c x d → largest (counts_at G (parts_sheaf G c) x d) ≤ result.1 }
+    ensures rows { let G = graph_in s.now in let m = method_at s.now in let c = cert_in s.now in
+        (x d : ℕ) → HasBlock G c x d → (counts_at G m c x d).rows ≤ result.0 }
+    ensures sizes { let G = graph_in s.now in let m = method_at s.now in let c = cert_in s.now in
+        (x d : ℕ) → HasBlock G c x d → largest (counts_at G m c x d) ≤ result.1 }
 {
     let graph = s.graph();
+    let given = s.given();
     let vertices = graph.vertices();
-    let degree = s.sheaf().degree();
+    let degree = given.degree;
     let table = s.sizes();
-    let mut equations = 0;
+    let mut rows = 0;
     let mut most = 0;
     'each: for i in 0..block_count(vertices, degree) {
         let (x, d) = block_at(vertices, degree, i);
-        let sizes = table.block(graph, x, d);
-        equations = sizes.equations.max(equations);
+        let sizes = table.block(graph, given, x, d);
+        rows = sizes.rows.max(rows);
         most = sizes.largest().max(most);
     }
-    (equations, most)
+    (rows, most)
 }
 
 /// The most coordinates of a stalk or of a boundary, in any degree.
@@ -61,15 +65,26 @@ fn coordinate_room(s: &Shaped) -> u64
     most
 }
 
-/// What any block of the certificate needs: as many numbers as the largest of all sizes.
+/// Room for the places of the positions and of so many equations, by whole spaces.
+fn index_for(alloc: Global, s: &Shaped, equations: u64) -> Result<SectionIndex, AllocError>
+    ensures vertices { IfOk result (λ index. method_at s.now ≡ Spaces → vertex_count (graph_in s.now) ≤ length index.starts.items) }
+    ensures equations { IfOk result (λ index. method_at s.now ≡ Spaces → equations ≤ length index.places.items) }
+{
+    match s.given().method() {
+        Method::Spaces => SectionIndex::new(alloc, s.graph().vertices(), equations),
+        Method::Levels => SectionIndex::new(alloc, 0, 0),
+    }
+}
+
+/// What any block needs: as many numbers as the largest of all sizes, and by whole spaces as many places as the most equations.
 pub fn scratch_for(alloc: Global, s: &Shaped) -> Result<BlockScratch, AllocError>
     requires { IsWhole s.now }
-    ensures { IfOk result (IsRoomFor (graph_in s.now) (cert_in s.now)) }
+    ensures { IfOk result (IsRoomFor (graph_in s.now) (method_at s.now) (cert_in s.now)) }
 {
-    let (equations, largest) = block_room(s);
+    let (rows, largest) = block_room(s);
     let numbers = coordinate_room(s).max(largest);
     Ok(BlockScratch {
-        index: SectionIndex::new(alloc, s.graph().vertices(), equations)?,
+        index: index_for(alloc, s, rows)?,
         numbers: Scratch::new(alloc, numbers)?,
     })
 }

@@ -2,11 +2,13 @@
 ghost use Rattle.std.specs.Prelude.{◌≡◌, ◌≢◌, ◌+◌, ◌-◌, ◌<◌, ◌≤◌, None, Some, length, MatchResult, IfErr};
 ghost use Rattle.bmp_graph.specs.Graph.{vertex_count};
 ghost use Rattle.bmp_cert.specs.CertGrammar.{HavePartLines};
+ghost use Rattle.bmp_cover.specs.BradenMacPherson.{IsTopVertex};
+ghost use Rattle.bmp_check.specs.BlockData.{top_vertex};
 ghost use Rattle.bmp_check.specs.Comparisons.{first_failure};
 ghost use Rattle.bmp_check.specs.Sizes.{shape_comparisons};
 ghost use Rattle.bmp_check.specs.SizeTables.{AreSizesOf, IsReady};
 ghost use Rattle.bmp_check.specs.Verdicts.{CountPasses, IsCountRefusal, ShapePassesAt, ShapePasses, IsShapeRefusal};
-ghost use Rattle.bmp_check.specs.ShapedViews.{written_in};
+ghost use Rattle.bmp_check.specs.ShapedViews.{method_in, written_in};
 
 use crate::Refusal;
 use crate::blocks::{block_at, block_count};
@@ -47,12 +49,12 @@ fn check_shape_at(
     x: u32,
     d: u32,
 ) -> Result<(), Refusal>
-    requires ready { IsReady graph.now (written_in c.now) table.now }
+    requires ready { IsReady graph.now c.now.version (written_in c.now) table.now }
     requires vertex { x + 1 < vertex_count graph.now }
     requires degree { d ≤ c.now.degree }
     ensures { MatchResult result
-        (λ _. ShapePassesAt graph.now 1 (written_in c.now) x d)
-        (λ r. first_failure (shape_comparisons graph.now 1 (written_in c.now) x d) ≡ Some r) }
+        (λ _. ShapePassesAt graph.now (method_in c.now) (written_in c.now) x d)
+        (λ r. first_failure (shape_comparisons graph.now (method_in c.now) (written_in c.now) x d) ≡ Some r) }
 {
     let mut at = SizeCheck {
         vertex: x,
@@ -62,17 +64,18 @@ fn check_shape_at(
     if d == 0 {
         check_vertex_sizes(graph, c, table, x, &mut at)?;
     }
-    let counts = table.block(graph, x, d);
-    check_block_sizes(&counts, block_of(part_of(c, x), d), &mut at)
+    let counts = table.block(graph, c, x, d);
+    check_block_sizes(c.method(), &counts, block_of(part_of(c, x), d), &mut at)
 }
 
 /// Compares the sizes of all blocks, and of their vertices, and gives the first comparison that fails. Takes no memory.
 pub fn check_shape(graph: &MomentGraph, c: &Given, table: &SizeTable) -> Result<(), Refusal>
-    requires formed { HavePartLines (graph.now.prime - 1) c.now.degree c.now.parts.now }
+    requires formed { HavePartLines c.now.version (graph.now.prime - 1) c.now.degree c.now.parts.now }
     requires vertices { length c.now.parts.now ≡ vertex_count graph.now }
+    requires top { IsTopVertex graph.now (top_vertex graph.now) }
     requires degree { c.now.degree ≤ 6 }
-    requires table { AreSizesOf graph.now (written_in c.now) table.now }
-    ensures first { MatchResult result (λ _. ShapePasses graph.now 1 (written_in c.now)) (IsShapeRefusal graph.now 1 (written_in c.now)) }
+    requires table { AreSizesOf graph.now (method_in c.now) (written_in c.now) table.now }
+    ensures first { MatchResult result (λ _. ShapePasses graph.now (method_in c.now) (written_in c.now)) (IsShapeRefusal graph.now (method_in c.now) (written_in c.now)) }
     ensures differ { IfErr result (λ r. r.left ≢ r.right) }
 {
     let vertices = graph.vertices();

@@ -1,6 +1,6 @@
 //! Parts of vertices whose sizes all fit, with the sheaf that they write down.
 ghost use Rattle.std.specs.Prelude.{◌≡◌};
-ghost use Rattle.bmp_check.specs.ShapedViews.{written_in, graph_in, cert_in, sizes_in, sheaf_in};
+ghost use Rattle.bmp_check.specs.ShapedViews.{graph_in, sizes_in, sheaf_in};
 
 use crate::given::Given;
 use crate::sizes::SizeTable;
@@ -25,9 +25,9 @@ impl<'a> Shaped<'a> {
         self.graph
     }
 
-    /// The degree bound and the parts.
+    /// The degree bound, the parts and the version of their evidence.
     pub fn given(&self) -> &Given<'a>
-        ensures { written_in result.now ≡ cert_in self.now }
+        ensures { result.now ≡ self.now.given }
     {
         &self.given
     }

@@ -1,22 +1,25 @@
 //! The check of a whole certificate.
-ghost use Rattle.std.specs.Prelude.{◌≡◌, ◌≢◌, ℕ, ◌≤◌, OnOk, IfOk, IfErr};
+ghost use Rattle.std.specs.Prelude.{◌≡◌, ◌≢◌, ◌≤◌, OnOk, IfOk, IfErr};
 ghost use Rattle.bmp_cover.specs.BradenMacPherson.{IsBradenMacPherson, HasGeneratorsUpTo};
 ghost use Rattle.bmp_cover.specs.Counts.{CountsAreDimensions};
 ghost use Rattle.bmp_cert.specs.Counts.{Written, written_by, IsRanksOf};
-ghost use Rattle.bmp_cert.specs.JobViews.{graph_of, prepared_of};
-ghost use Rattle.bmp_check.specs.Accepted.{IsAccepted, IsCheckable, top_vertex};
+ghost use Rattle.bmp_cert.specs.CertGrammar.{IsWellFormed};
+ghost use Rattle.bmp_cert.specs.JobViews.{job_of, graph_of, prepared_of};
+ghost use Rattle.bmp_check.specs.Accepted.{IsCheckable};
+ghost use Rattle.bmp_check.specs.BlockData.{top_vertex};
 ghost use Rattle.bmp_check.specs.CheckErrors.{IsRefusedBy};
+ghost use Rattle.bmp_check.specs.Settings.{shaped_in, IsSet};
 ghost use Rattle.bmp_check.specs.Shaped.{IsRoomFor};
-ghost use Rattle.bmp_check.specs.ShapedViews.{graph_in, cert_in, IsWhole};
+ghost use Rattle.bmp_check.specs.ShapedViews.{graph_in, method_at, cert_in};
 ghost use Rattle.bmp_check.specs.PartsSheaf.{parts_sheaf};
-ghost use Rattle.bmp_check.specs.Verdicts.{HasBlock, BlockPasses, IsFirstBlockRefusal, Passes, IsFirstRefusal};
+ghost use Rattle.bmp_check.specs.Verdicts.{BlocksPass, IsFirstBlockRefusal, Passes, IsFirstRefusal};
 
 use crate::block::check_block;
-use crate::blocks::{block_at, block_count};
+use crate::blocks::block_count;
 use crate::given::Given;
 use crate::refusal::{CheckError, Refusal};
 use crate::scratch::{BlockScratch, scratch_for};
-use crate::shaped::Shaped;
+use crate::setting::Setting;
 use crate::top::check_top;
 use crate::written::{check_sizes, shaped_of};
 use bmp_cert::{Accepted, Cert, Parts, Ranks};
@@ -25,19 +28,19 @@ use std::alloc::Global;
 use std::thread::Threads;
 
 /// Checks the blocks in their order, up to the first that is refused.
-fn check_blocks(s: &Shaped, scratch: &mut BlockScratch) -> Result<(), Refusal>
-    requires whole { IsWhole s.now }
-    requires room { IsRoomFor (graph_in s.now) (cert_in s.now) scratch.old }
-    ensures ok { let G = graph_in s.now in let c = cert_in s.now in
-        OnOk result ((x d : ℕ) → HasBlock G c x d → BlockPasses G 1 c x d) }
-    ensures first { IfErr result (IsFirstBlockRefusal (graph_in s.now) 1 (cert_in s.now)) }
+fn check_blocks(s: &Setting, scratch: &mut BlockScratch) -> Result<(), Refusal>
+    requires set { IsSet s.now }
+    requires room { let shaped = shaped_in s.now in IsRoomFor (graph_in shaped) (method_at shaped) (cert_in shaped) scratch.old }
+    ensures ok { let shaped = shaped_in s.now in
+        OnOk result (BlocksPass (graph_in shaped) (method_at shaped) (cert_in shaped)) }
+    ensures first { let shaped = shaped_in s.now in
+        IfErr result (IsFirstBlockRefusal (graph_in shaped) (method_at shaped) (cert_in shaped)) }
     ensures differ { IfErr result (λ r. r.left ≢ r.right) }
 {
-    let vertices = s.graph().vertices();
-    let degree = s.sheaf().degree();
-    'each: for i in 0..block_count(vertices, degree) {
-        let (x, d) = block_at(vertices, degree, i);
-        check_block(s, x, d, scratch)?;
+    let shaped = s.shaped();
+    let vertices = shaped.graph().vertices();
+    'each: for i in 0..block_count(vertices, shaped.given().degree) {
+        check_block(s, i, scratch)?;
     }
     Ok(())
 }
@@ -70,13 +73,17 @@ pub fn check_graph(
     ensures refused { IfErr result (IsRefusedBy (IsFirstRefusal graph.now version (record { degree = degree; parts = parts.now }))) }
 {
     let _workers = workers;
-    let _version = version;
-    let given = Given { degree, parts };
+    let given = Given {
+        degree,
+        version,
+        parts,
+    };
     let sizes = check_sizes(alloc, graph, &given)?;
     check_top(&given)?;
     let shaped = shaped_of(alloc, graph, &given, sizes)?;
-    let mut scratch = scratch_for(alloc, &shaped)?;
-    check_blocks(&shaped, &mut scratch)?;
+    let setting = Setting::of(alloc, shaped)?;
+    let mut scratch = scratch_for(alloc, setting.shaped())?;
+    check_blocks(&setting, &mut scratch)?;
     let ranks = Ranks::of_parts(alloc, parts, degree)?;
     Ok(ranks)
 }
@@ -89,7 +96,8 @@ pub fn check(
     c: &Cert,
     workers: u32,
 ) -> Result<Ranks, CheckError>
-    requires accepted { IsAccepted (graph_of (prepared_of a.now)) c.now }
+    requires formed { IsWellFormed c.now }
+    requires job { c.now.job ≡ job_of (prepared_of a.now) }
     requires workers { (1 ≤ workers) × (workers ≤ 32) }
     ensures ranks { IfOk result (IsRanksOf (written_by c.now)) }
     ensures passes { OnOk result (Passes (graph_of (prepared_of a.now)) c.now.version (written_by c.now)) }

@@ -7,7 +7,7 @@ ghost use Rattle.bmp_sheaf.specs.StalkFaults.{IsStalk};
 ghost use Rattle.bmp_check.specs.Accepted.{IsCheckable};
 ghost use Rattle.bmp_check.specs.CheckErrors.{IsRefusedBy};
 ghost use Rattle.bmp_check.specs.Shaped.{cert_stalk, IsSheafOf};
-ghost use Rattle.bmp_check.specs.ShapedViews.{written_in, graph_in, cert_in, IsWhole};
+ghost use Rattle.bmp_check.specs.ShapedViews.{method_in, written_in, graph_in, version_in, cert_in, IsWhole};
 ghost use Rattle.bmp_check.specs.SizeTables.{AreSizesOf};
 ghost use Rattle.bmp_check.specs.Verdicts.{CountPasses, ShapePasses, IsCountRefusal, IsShapeRefusal};
 
@@ -38,9 +38,9 @@ fn push_part(sheaf: &mut Sheaf<PrimeField>, part: &VertexPart) -> Result<(), All
 
 /// The sheaf that parts write down on a graph: its stalks come from the greatest vertex down.
 fn sheaf_of(alloc: Global, graph: &MomentGraph, c: &Given) -> Result<Sheaf<PrimeField>, AllocError>
-    requires checkable { IsCheckable graph.now 1 (written_in c.now) }
+    requires checkable { IsCheckable graph.now c.now.version (written_in c.now) }
     requires count { CountPasses graph.now (written_in c.now) }
-    requires shape { ShapePasses graph.now 1 (written_in c.now) }
+    requires shape { ShapePasses graph.now (method_in c.now) (written_in c.now) }
     ensures { IfOk result (IsSheafOf graph.now (written_in c.now)) }
 {
     let field = match PrimeField::new(graph.prime()) {
@@ -61,12 +61,12 @@ pub(crate) fn check_sizes(
     graph: &MomentGraph,
     c: &Given,
 ) -> Result<SizeTable, CheckError>
-    requires checkable { IsCheckable graph.now 1 (written_in c.now) }
-    ensures sizes { IfOk result (AreSizesOf graph.now (written_in c.now)) }
+    requires checkable { IsCheckable graph.now c.now.version (written_in c.now) }
+    ensures sizes { IfOk result (AreSizesOf graph.now (method_in c.now) (written_in c.now)) }
     ensures count { OnOk result (CountPasses graph.now (written_in c.now)) }
-    ensures shape { OnOk result (ShapePasses graph.now 1 (written_in c.now)) }
+    ensures shape { OnOk result (ShapePasses graph.now (method_in c.now) (written_in c.now)) }
     ensures refused { let w = written_in c.now in
-        IfErr result (IsRefusedBy (λ r. IsCountRefusal graph.now w r ⊎ (CountPasses graph.now w × IsShapeRefusal graph.now 1 w r))) }
+        IfErr result (IsRefusedBy (λ r. IsCountRefusal graph.now w r ⊎ (CountPasses graph.now w × IsShapeRefusal graph.now (method_in c.now) w r))) }
 {
     check_count(graph, c)?;
     let sizes = SizeTable::new(alloc, graph, c)?;
@@ -81,12 +81,13 @@ pub(crate) fn shaped_of<'a>(
     c: &Given<'a>,
     sizes: SizeTable,
 ) -> Result<Shaped<'a>, AllocError>
-    requires checkable { IsCheckable graph.now 1 (written_in c.now) }
-    requires sizes { AreSizesOf graph.now (written_in c.now) sizes }
+    requires checkable { IsCheckable graph.now c.now.version (written_in c.now) }
+    requires sizes { AreSizesOf graph.now (method_in c.now) (written_in c.now) sizes }
     requires count { CountPasses graph.now (written_in c.now) }
-    requires shape { ShapePasses graph.now 1 (written_in c.now) }
+    requires shape { ShapePasses graph.now (method_in c.now) (written_in c.now) }
     ensures whole { IfOk result IsWhole }
     ensures graph { IfOk result (λ s. graph_in s ≡ graph.now) }
+    ensures version { IfOk result (λ s. version_in s ≡ c.now.version) }
     ensures cert { IfOk result (λ s. cert_in s ≡ written_in c.now) }
 {
     let sheaf = sheaf_of(alloc, graph, c)?;
@@ -105,14 +106,15 @@ pub fn shape<'a>(
     graph: &'a MomentGraph,
     c: &Given<'a>,
 ) -> Result<Shaped<'a>, CheckError>
-    requires checkable { IsCheckable graph.now 1 (written_in c.now) }
+    requires checkable { IsCheckable graph.now c.now.version (written_in c.now) }
     ensures whole { IfOk result IsWhole }
     ensures graph { IfOk result (λ s. graph_in s ≡ graph.now) }
+    ensures version { IfOk result (λ s. version_in s ≡ c.now.version) }
     ensures cert { IfOk result (λ s. cert_in s ≡ written_in c.now) }
     ensures count { OnOk result (CountPasses graph.now (written_in c.now)) }
-    ensures shape { OnOk result (ShapePasses graph.now 1 (written_in c.now)) }
+    ensures shape { OnOk result (ShapePasses graph.now (method_in c.now) (written_in c.now)) }
     ensures refused { let w = written_in c.now in
-        IfErr result (IsRefusedBy (λ r. IsCountRefusal graph.now w r ⊎ (CountPasses graph.now w × IsShapeRefusal graph.now 1 w r))) }
+        IfErr result (IsRefusedBy (λ r. IsCountRefusal graph.now w r ⊎ (CountPasses graph.now w × IsShapeRefusal graph.now (method_in c.now) w r))) }
 {
     let sizes = check_sizes(alloc, graph, c)?;
     let shaped = shaped_of(alloc, graph, c, sizes)?;

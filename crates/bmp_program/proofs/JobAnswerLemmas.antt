@@ -1,9 +1,10 @@
 -- What is answered to a job that breaks a rule, as a report of each command.
-use Rattle.std.proofs.Common.{◌≡◌, ℕ, List, refl, sym, subst, ◌∙◌}
+use Rattle.std.proofs.Common.{◌≡◌, ℕ, List, [], ◌∷◌, refl, sym, subst, ◌∙◌}
 use Rattle.bmp_cert.specs.declared.job.Job.{Job}
 use Rattle.bmp_cert.specs.declared.job_fault.JobFault.{JobFault}
-use Rattle.bmp_cert.specs.declared.job_fault.JobFault.TheVariants.{Cartan, Finite, Prime, Letter, Reduced, TooMany, DegreeBound, TooLarge, Gkm}
-use Rattle.bmp_cert.specs.JobRules.{KeepsFirstRules, KeepsRules, IsFirstFault}
+use Rattle.bmp_cert.specs.declared.job_fault.JobFault.TheVariants.{Cartan, Finite, Prime, Letter, Reduced, TooMany, DegreeBound, TooLarge, ZeroLabel, Gkm}
+use Rattle.bmp_cert.specs.JobRules.{HasGkmGraph, graph_rules, rules, KeepsAll, IsFirstFault}
+use Rattle.bmp_cert.proofs.RuleLemmas.{keeps_before}
 use Rattle.bmp_cert.specs.JobGraphs.{IsJobGraph, IsPrepared}
 use Rattle.bmp_cert.specs.declared.cert.Cert.{Cert}
 use Rattle.bmp_interval.specs.IntervalViews.{system_of, vertices_of}
@@ -25,6 +26,7 @@ by_fault P (Reduced n) bad gkm = bad
 by_fault P (TooMany n) bad gkm = bad
 by_fault P (DegreeBound d) bad gkm = bad
 by_fault P (TooLarge n) bad gkm = bad
+by_fault P (ZeroLabel x y) bad gkm = bad
 by_fault P (Gkm p) bad gkm = gkm
 
 pub gkm_fault : (j : Job) (s : Status) (text : List ℕ) → JobReport j s text → GkmReport j s text
@@ -37,8 +39,8 @@ cert_fault c s text is =
     subst (λ (t : Status). JobReport c.job t text → CertReport c t text) (sym is.2)
     (by_fault (λ t. JobReport c.job t text → CertReport c t text) is.0 (λ r. r) (λ r. r)) is
 
--- where one of the first eight rules fails, the first rule that fails is one of them
-early_status : (j : Job) (f : JobFault) → (KeepsFirstRules j → ⊥) → IsFirstFault j f → fault_status f ≡ BadJob
+-- where one of the rules of the graph fails, the first rule that fails is one of them
+early_status : (j : Job) (f : JobFault) → (KeepsAll graph_rules j → ⊥) → IsFirstFault j f → fault_status f ≡ BadJob
 early_status j (Cartan f) none h = refl
 early_status j (Finite e) none h = refl
 early_status j (Prime p) none h = refl
@@ -47,15 +49,16 @@ early_status j (Reduced n) none h = refl
 early_status j (TooMany n) none h = refl
 early_status j (DegreeBound d) none h = refl
 early_status j (TooLarge n) none h = refl
-early_status j (Gkm p) none h = absurd (none h.before)
+early_status j (ZeroLabel x y) none h = refl
+early_status j (Gkm p) none h = absurd (none (keeps_before j graph_rules (HasGkmGraph ∷ []) 0 h.fails))
 
-pub graph_fault : (j : Job) (s : Status) (text : List ℕ) → (KeepsFirstRules j → ⊥) → JobReport j s text → GraphReport j s text
+pub graph_fault : (j : Job) (s : Status) (text : List ℕ) → (KeepsAll graph_rules j → ⊥) → JobReport j s text → GraphReport j s text
 graph_fault j s text none is =
     let bad : s ≡ BadJob = is.2 ∙ early_status j is.0 none is.1 in
     subst (λ (t : Status). GraphReport j t text) (sym bad) (subst (λ (t : Status). JobReport j t text) bad is)
 
 -- where all rules that are tried hold, the text is that of the job's graph
-pub graph_done : (j : Job) (interval : Interval) (g : Graph) (text : List ℕ) (answer : Report) → KeepsFirstRules j → IsPrepared j interval g → text ≡ graph_text (system_of interval) (vertices_of interval) g → answer ≡ record { status = Done; text = text } → GraphReport j answer.status answer.text
+pub graph_done : (j : Job) (interval : Interval) (g : Graph) (text : List ℕ) (answer : Report) → KeepsAll graph_rules j → IsPrepared j interval g → text ≡ graph_text (system_of interval) (vertices_of interval) g → answer ≡ record { status = Done; text = text } → GraphReport j answer.status answer.text
 graph_done j interval g text answer kept prepared text_is is =
     let of : IsJobGraph j g = record {
       roots = system_of interval;
@@ -67,5 +70,5 @@ graph_done j interval g text answer kept prepared text_is is =
     } in
     subst (λ (r : Report). GraphReport j r.status r.text) (sym is) (kept, (g, of, text_is))
 
-pub gkm_done : (j : Job) (g : Graph) (text : List ℕ) (answer : Report) → KeepsRules j → IsJobGraph j g → text ≡ gkm_text g → answer ≡ record { status = Done; text = text } → GkmReport j answer.status answer.text
+pub gkm_done : (j : Job) (g : Graph) (text : List ℕ) (answer : Report) → KeepsAll rules j → IsJobGraph j g → text ≡ gkm_text g → answer ≡ record { status = Done; text = text } → GkmReport j answer.status answer.text
 gkm_done j g text answer kept of text_is is = subst (λ (r : Report). GkmReport j r.status r.text) (sym is) (kept, (g, of, text_is))

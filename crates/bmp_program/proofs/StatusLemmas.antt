@@ -1,21 +1,21 @@
 -- Words and input have one status at most.
-use Rattle.std.proofs.Common.{◌≡◌, ◌<◌, ◌≤◌, ◌⊎◌, inl, inr, ℕ, List, Option, Some, None, Ok, Err, refl, sym, subst, ◌∙◌, arith, length}
+use Rattle.std.proofs.Common.{◌≡◌, ◌<◌, ◌≤◌, ◌⊎◌, inl, inr, ℕ, List, [], ◌∷◌, Option, Some, None, Ok, Err, refl, sym, subst, ◌∙◌, arith, length}
 use Rattle.bmp_graph.specs.Graph.{Graph}
 use Rattle.bmp_text.specs.declared.fault.TextFault.{TextFault}
 use Rattle.bmp_text.specs.Readers.{whole}
 use Rattle.bmp_text.proofs.Pairs.{whole_again}
 use Rattle.bmp_cert.proofs.CertPairs.{cert_pair}
 use Rattle.bmp_cert.proofs.GraphLemmas.{one_graph}
-use Rattle.bmp_cert.proofs.RuleLemmas.{breaks_first_rules}
+use Rattle.bmp_cert.proofs.RuleLemmas.{keeps_front, keeps_back, keeps_before, fails_there, not_kept}
 use Rattle.bmp_cert.specs.declared.job.Job.{Job}
 use Rattle.bmp_cert.specs.declared.job_fault.JobFault.{JobFault}
-use Rattle.bmp_cert.specs.declared.job_fault.JobFault.TheVariants.{Cartan, Finite, Prime, Letter, Reduced, TooMany, DegreeBound, TooLarge, Gkm}
+use Rattle.bmp_cert.specs.declared.job_fault.JobFault.TheVariants.{Cartan, Finite, Prime, Letter, Reduced, TooMany, DegreeBound, TooLarge, ZeroLabel, Gkm}
 use Rattle.bmp_cert.specs.declared.cert.Cert.{Cert}
 use Rattle.bmp_cert.proofs.JobPairs.{job_pair}
 use Rattle.bmp_cert.specs.JobGrammar.{job, job_text, IsWellFormedJob}
 use Rattle.bmp_cert.specs.CertGrammar.{cert, cert_text, IsWellFormed}
 use Rattle.bmp_cert.specs.JobGraphs.{IsJobGraph}
-use Rattle.bmp_cert.specs.JobRules.{HasGkmGraph, KeepsFirstRules, KeepsRules, IsFirstFault}
+use Rattle.bmp_cert.specs.JobRules.{Rule, HasGkmGraph, graph_rules, rules, KeepsAll, IsFirstFault}
 use Rattle.bmp_check.proofs.PassLemmas.{none_fails}
 use Rattle.bmp_cert.specs.Counts.{written_by}
 use Rattle.bmp_check.specs.Verdicts.{Passes, IsFirstRefusal}
@@ -33,26 +33,30 @@ read_as c input is = subst (λ (bytes : List ℕ). whole cert bytes ≡ Ok c) (s
 
 -- ---- the cases of a certificate
 
--- a job that breaks a rule: one of the first eight, or the last
+-- a job that breaks a rule: one of those of the graph, or the last
 JobCase : Job → Status → Type 0
-JobCase j s = ((s ≡ BadJob) × (KeepsFirstRules j → ⊥)) ⊎ ((s ≡ GkmFailed) × KeepsFirstRules j × (HasGkmGraph j → ⊥))
+JobCase j s = ((s ≡ BadJob) × (KeepsAll graph_rules j → ⊥)) ⊎ ((s ≡ GkmFailed) × KeepsAll graph_rules j × (HasGkmGraph j → ⊥))
+
+abbrev last_rule : List Rule
+last_rule = HasGkmGraph ∷ []
 
 job_case : (j : Job) (s : Status) (f : JobFault) → IsFirstFault j f → s ≡ fault_status f → JobCase j s
 unfolding JobCase
-job_case j s (Cartan f) h is = inl (is, breaks_first_rules j (Cartan f) tt h)
-job_case j s (Finite e) h is = inl (is, breaks_first_rules j (Finite e) tt h)
-job_case j s (Prime p) h is = inl (is, breaks_first_rules j (Prime p) tt h)
-job_case j s (Letter e) h is = inl (is, breaks_first_rules j (Letter e) tt h)
-job_case j s (Reduced n) h is = inl (is, breaks_first_rules j (Reduced n) tt h)
-job_case j s (TooMany n) h is = inl (is, breaks_first_rules j (TooMany n) tt h)
-job_case j s (DegreeBound d) h is = inl (is, breaks_first_rules j (DegreeBound d) tt h)
-job_case j s (TooLarge n) h is = inl (is, breaks_first_rules j (TooLarge n) tt h)
-job_case j s (Gkm p) h is = inr (is, h.before, h.broken)
+job_case j s (Cartan f) h is = inl (is, not_kept j graph_rules 0 h.fails)
+job_case j s (Finite e) h is = inl (is, not_kept j graph_rules 1 h.fails)
+job_case j s (Prime p) h is = inl (is, not_kept j graph_rules 2 h.fails)
+job_case j s (Letter e) h is = inl (is, not_kept j graph_rules 3 h.fails)
+job_case j s (Reduced n) h is = inl (is, not_kept j graph_rules 4 h.fails)
+job_case j s (TooMany n) h is = inl (is, not_kept j graph_rules 5 h.fails)
+job_case j s (DegreeBound d) h is = inl (is, not_kept j graph_rules 6 h.fails)
+job_case j s (TooLarge n) h is = inl (is, not_kept j graph_rules 7 h.fails)
+job_case j s (ZeroLabel x y) h is = inl (is, not_kept j graph_rules 8 h.fails)
+job_case j s (Gkm p) h is = inr (is, keeps_before j graph_rules last_rule 0 h.fails, fails_there j graph_rules last_rule 0 h.fails)
 
-job_breaks : (j : Job) (s : Status) → JobCase j s → KeepsRules j → ⊥
+job_breaks : (j : Job) (s : Status) → JobCase j s → KeepsAll rules j → ⊥
 unfolding JobCase
-job_breaks j s (inl a) kept = a.1 kept.0
-job_breaks j s (inr a) kept = a.2 kept.1
+job_breaks j s (inl a) kept = a.1 (keeps_front j graph_rules last_rule kept)
+job_breaks j s (inr a) kept = a.2 (keeps_back j graph_rules last_rule kept).0
 
 one_job_case : (j : Job) (s t : Status) → JobCase j s → JobCase j t → s ≡ t
 unfolding JobCase
@@ -76,8 +80,8 @@ not_both c (G, of_G, passes) (H, of_H, fails) =
 
 CertCase : Cert → Status → Type 0
 CertCase c s = JobCase c.job s
-    ⊎ (((s ≡ Refused) × KeepsRules c.job × CertFails c)
-    ⊎ ((s ≡ Done) × KeepsRules c.job × CertPasses c))
+    ⊎ (((s ≡ Refused) × KeepsAll rules c.job × CertFails c)
+    ⊎ ((s ≡ Done) × KeepsAll rules c.job × CertPasses c))
 
 cert_case : (c : Cert) (s : Status) (text : List ℕ) → CertReport c s text → CertCase c s
 unfolding CertCase
@@ -156,12 +160,12 @@ one_decided Kept j s t (inl a) (inr b) = absurd (b.1 a.1)
 one_decided Kept j s t (inr a) (inl b) = absurd (a.1 b.1)
 one_decided Kept j s t (inr a) (inr b) = one_job_case j s t a.0 b.0
 
-bad_job : (j : Job) → JobCase j BadJob → KeepsFirstRules j → ⊥
+bad_job : (j : Job) → JobCase j BadJob → KeepsAll graph_rules j → ⊥
 unfolding JobCase
 bad_job j (inl a) kept = a.1 kept
 bad_job j (inr a) kept = let p = a.0 in cc
 
-graph_case : (j : Job) (s : Status) (text : List ℕ) → GraphReport j s text → Decides KeepsFirstRules j s
+graph_case : (j : Job) (s : Status) (text : List ℕ) → GraphReport j s text → Decides KeepsAll graph_rules j s
 unfolding Decides
 graph_case j Done text is = inl (refl, is.0)
 graph_case j BadJob text is = let broken = job_case j BadJob is.0 is.1 is.2 in inr (broken, bad_job j broken)
@@ -174,7 +178,7 @@ graph_case j NoMemory text is = absurd is
 graph_case j TooLong text is = absurd is
 graph_case j Usage text is = absurd is
 
-gkm_case : (j : Job) (s : Status) (text : List ℕ) → GkmReport j s text → Decides KeepsRules j s
+gkm_case : (j : Job) (s : Status) (text : List ℕ) → GkmReport j s text → Decides (KeepsAll rules) j s
 unfolding Decides
 gkm_case j Done text is = inl (refl, is.0)
 gkm_case j BadJob text is = let broken = job_case j BadJob is.0 is.1 is.2 in inr (broken, job_breaks j BadJob broken)
@@ -226,9 +230,9 @@ one_job_text_case Kept input s t (inr a) (inr b) = same_job Kept input a.0 b.0 s
 one_text : (command : CommandWord) (input : List ℕ) (s t : Status) (a b : List ℕ) → TextReport command input s a → TextReport command input t b → s ≡ t
 one_text Check input s t a b p q = one_cert_text_case input s t (cert_text_case input s a p) (cert_text_case input t b q)
 one_text GraphCommand input s t a b p q =
-    one_job_text_case KeepsFirstRules input s t (job_text_case GraphReport KeepsFirstRules graph_case input a s p) (job_text_case GraphReport KeepsFirstRules graph_case input b t q)
+    one_job_text_case (KeepsAll graph_rules) input s t (job_text_case GraphReport (KeepsAll graph_rules) graph_case input a s p) (job_text_case GraphReport (KeepsAll graph_rules) graph_case input b t q)
 one_text GkmCommand input s t a b p q =
-    one_job_text_case KeepsRules input s t (job_text_case GkmReport KeepsRules gkm_case input a s p) (job_text_case GkmReport KeepsRules gkm_case input b t q)
+    one_job_text_case (KeepsAll rules) input s t (job_text_case GkmReport (KeepsAll rules) gkm_case input a s p) (job_text_case GkmReport (KeepsAll rules) gkm_case input b t q)
 
 InputCase : CommandWord → List ℕ → Status → List ℕ → Type 0
 InputCase command input s text = ((s ≡ TooLong) × (input_limit < length input))

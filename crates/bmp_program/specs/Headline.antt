@@ -15,7 +15,7 @@ use Rattle.bmp_cert.specs.declared.cert.Cert.{Cert}
 use Rattle.bmp_cert.specs.CertGrammar.{cert_text, IsWellFormed}
 use Rattle.bmp_cert.specs.Counts.{written_by}
 use Rattle.bmp_cert.specs.JobGraphs.{IsJobGraph}
-use Rattle.bmp_cert.specs.JobRules.{KeepsRules}
+use Rattle.bmp_cert.specs.JobRules.{rules, KeepsAll}
 use Rattle.bmp_check.specs.Accepted.{top_vertex}
 use Rattle.bmp_check.specs.PartsSheaf.{parts_sheaf}
 use Rattle.bmp_report.specs.RankLines.{cert_rank_lines}
@@ -24,7 +24,7 @@ pub record Certifies (c : Cert) (G : Graph) (input : List ℕ) : Type 0 where
   pub well_formed : IsWellFormed c
   pub is_text : input ≡ cert_text c
   pub only : (d : Cert) → IsWellFormed d → input ≡ cert_text d → d ≡ c
-  pub rules : KeepsRules c.job
+  pub rules : KeepsAll rules c.job
   pub graph : IsJobGraph c.job G
   pub sheaf : IsBradenMacPherson G (parts_sheaf G (written_by c)) c.job.degree (top_vertex G)
   pub bounded : HasGeneratorsUpTo G (parts_sheaf G (written_by c)) c.job.degree

@@ -31,7 +31,7 @@ use Rattle.bmp_cert.specs.CertGrammar.{cert, cert_text, IsWellFormed}
 use Rattle.bmp_cert.specs.JobGrammar.{job, job_text, IsWellFormedJob}
 use Rattle.bmp_cert.specs.Counts.{written_by}
 use Rattle.bmp_cert.specs.JobGraphs.{IsJobGraph}
-use Rattle.bmp_cert.specs.JobRules.{KeepsFirstRules, KeepsRules, IsFirstFault}
+use Rattle.bmp_cert.specs.JobRules.{graph_rules, rules, KeepsAll, IsFirstFault}
 use Rattle.bmp_check.specs.declared.refusal.Refusal.{Refusal}
 use Rattle.bmp_check.specs.Refusals.{refusal_text}
 use Rattle.bmp_check.specs.Verdicts.{Passes, IsFirstRefusal}
@@ -73,8 +73,8 @@ abbrev pub CertReport : Cert → Status → List ℕ → Type 0
 CertReport c BadJob text = JobReport c.job BadJob text
 CertReport c GkmFailed text = JobReport c.job GkmFailed text
 CertReport c Refused text =
-    KeepsRules c.job × ((G : Graph) × IsJobGraph c.job G × ((refusal : Refusal) × IsFirstRefusal G c.version (written_by c) refusal × (text ≡ refusal_text refusal)))
-CertReport c Done text = KeepsRules c.job × ((G : Graph) × IsJobGraph c.job G × Passes G c.version (written_by c) × (text ≡ cert_rank_lines c))
+    KeepsAll rules c.job × ((G : Graph) × IsJobGraph c.job G × ((refusal : Refusal) × IsFirstRefusal G c.version (written_by c) refusal × (text ≡ refusal_text refusal)))
+CertReport c Done text = KeepsAll rules c.job × ((G : Graph) × IsJobGraph c.job G × Passes G c.version (written_by c) × (text ≡ cert_rank_lines c))
 CertReport c _ text = ⊥
 
 -- the text of no certificate, with the first fault in reading order, or the text of one
@@ -82,16 +82,16 @@ abbrev pub CertTextReport : List ℕ → Status → List ℕ → Type 0
 CertTextReport input BadText text = (fault : TextFault) × (whole cert input ≡ Err fault) × (text ≡ text_fault_line fault)
 CertTextReport input status text = (c : Cert) × IsCertOf c input × CertReport c status text
 
--- the first eight rules alone decide on a graph
+-- the rules of the graph alone decide on it
 abbrev pub GraphReport : Job → Status → List ℕ → Type 0
 GraphReport j BadJob text = JobReport j BadJob text
-GraphReport j Done text = KeepsFirstRules j × ((g : Graph) × (of : IsJobGraph j g) × (text ≡ graph_text of.roots of.vertices g))
+GraphReport j Done text = KeepsAll graph_rules j × ((g : Graph) × (of : IsJobGraph j g) × (text ≡ graph_text of.roots of.vertices g))
 GraphReport j _ text = ⊥
 
 abbrev pub GkmReport : Job → Status → List ℕ → Type 0
 GkmReport j BadJob text = JobReport j BadJob text
 GkmReport j GkmFailed text = JobReport j GkmFailed text
-GkmReport j Done text = KeepsRules j × ((g : Graph) × IsJobGraph j g × (text ≡ gkm_text g))
+GkmReport j Done text = KeepsAll rules j × ((g : Graph) × IsJobGraph j g × (text ≡ gkm_text g))
 GkmReport j _ text = ⊥
 
 -- the text of no job, with the first fault in reading order, or the text of one

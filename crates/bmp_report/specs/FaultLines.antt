@@ -15,7 +15,7 @@ use Rattle.bmp_roots.specs.declared.refusal.FiniteKind.TheVariants.{Pairs, Coord
 use Rattle.bmp_roots.specs.declared.refusal.NotFinite.{NotFinite}
 use Rattle.bmp_graph.specs.declared.fault.GkmPair.{GkmPair}
 use Rattle.bmp_cert.specs.declared.job_fault.JobFault.{JobFault}
-use Rattle.bmp_cert.specs.declared.job_fault.JobFault.TheVariants.{Cartan, Finite, Prime, Letter, Reduced, TooMany, DegreeBound, TooLarge, Gkm}
+use Rattle.bmp_cert.specs.declared.job_fault.JobFault.TheVariants.{Cartan, Finite, Prime, Letter, Reduced, TooMany, DegreeBound, TooLarge, ZeroLabel, Gkm}
 
 abbrev pub text_fault_line : TextFault → List ℕ
 text_fault_line f = codes "text line" ++ ((32 ∷ decimal f.line) ++ (codes " kind " ++ (kind_name f.kind ++ (10 ∷ []))))
@@ -54,6 +54,7 @@ fault_text rank (Reduced n) = numbered_text (codes "job reduced") n
 fault_text rank (TooMany n) = numbered_text (codes "job vertices") n
 fault_text rank (DegreeBound d) = numbered_text (codes "job degree") d
 fault_text rank (TooLarge n) = numbered_text (codes "job size") n
+fault_text rank (ZeroLabel x y) = numbered_text (codes "job label") x ++ (32 ∷ decimal y)
 fault_text rank (Gkm p) = pair_text p
 
 abbrev pub job_fault_line : ℕ → JobFault → List ℕ

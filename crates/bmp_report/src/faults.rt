@@ -1,6 +1,6 @@
 //! The lines of faults.
-ghost use Rattle.std.specs.Prelude.{◌≡◌, ◌≤◌, ◌++◌, ◌∷◌, IfOk, OnOk};
-ghost use Rattle.std.specs.Fmt.{signed_decimal};
+ghost use Rattle.std.specs.Prelude.{◌≡◌, ◌≤◌, ◌++◌, ◌∷◌, codes, IfOk, OnOk};
+ghost use Rattle.std.specs.Fmt.{decimal, signed_decimal};
 ghost use Rattle.bmp_report.specs.FaultLines.{text_fault_line, cartan_text, limit_name, coordinates_text, finite_text, numbered_text, pair_text, fault_text, job_fault_line, HasCoordinates};
 
 use bmp_cert::JobFault;
@@ -92,6 +92,15 @@ pub(crate) fn push_numbered(out: &mut Vec<u8>, name: &[u8], n: u64) -> Result<()
     push_number(out, n)
 }
 
+// The two ends of an edge whose label is zero.
+fn push_ends(out: &mut Vec<u8>, lower: u32, upper: u32) -> Result<(), AllocError>
+    ensures { OnOk result (out.new.items ≡ out.old.items
+        ++ (numbered_text (codes "job label") lower ++ (32 ∷ decimal upper))) }
+{
+    push_numbered(out, b"job label", u64::from(lower))?;
+    push_number(out, u64::from(upper))
+}
+
 // The vertex and the two edges.
 fn push_pair(out: &mut Vec<u8>, pair: &GkmPair) -> Result<(), AllocError>
     ensures { OnOk result (out.new.items ≡ out.old.items ++ pair_text pair.now) }
@@ -115,11 +124,12 @@ fn push_fault(out: &mut Vec<u8>, rank: u8, fault: &JobFault) -> Result<(), Alloc
         JobFault::TooMany { count } => push_numbered(out, b"job vertices", u64::from(*count)),
         JobFault::DegreeBound(degree) => push_numbered(out, b"job degree", u64::from(*degree)),
         JobFault::TooLarge { size } => push_numbered(out, b"job size", u64::from(*size)),
+        JobFault::ZeroLabel { lower, upper } => push_ends(out, *lower, *upper),
         JobFault::Gkm(pair) => push_pair(out, pair),
     }
 }
 
-/// The line of a job's fault, as `job cartan diagonal I`, `job prime P` or `gkm vertex V edges A B`. The rank is the
+/// The line of a job's fault, as `job cartan diagonal I`, `job label X Y` or `gkm vertex V edges A B`. The rank is the
 /// number of coordinates of a root that breaks a limit.
 pub fn job_line(alloc: Global, rank: u8, fault: &JobFault) -> Result<Vec<u8>, AllocError>
     requires { HasCoordinates rank fault.now }

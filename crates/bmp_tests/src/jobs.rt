@@ -4,16 +4,24 @@ use bmp_program::Status;
 use std::alloc::{AllocError, Global};
 use std::test::Fail;
 
-// A job text: the rows of the matrix, the prime, the word with its length, and the degree bound.
+// How job texts begin, by lattice.
+const PLAIN: &str = "bmp-job 1\n";
+
+const ROOT: &str = "bmp-job 2\nlattice 0\n";
+
+const WEIGHT: &str = "bmp-job 2\nlattice 1\n";
+
+// A job text: how it begins, the rows of the matrix, the prime, the word with its length, and the degree bound.
 fn job(
     alloc: Global,
+    head: &str,
     rows: &[&str],
     prime: &str,
     word: &str,
     degree: &str,
 ) -> Result<String, AllocError> {
     let rank = rows.len();
-    let mut text = format!(in alloc; "bmp-job 1\nrank {rank}\n")?;
+    let mut text = format!(in alloc; "{head}rank {rank}\n")?;
     for row in rows {
         for part in ["row ", row, "\n"] {
             text.push_str(part)?;
@@ -34,6 +42,8 @@ fn job(
 }
 
 const A1: &[&str] = &["2"];
+
+const A2: &[&str] = &["2 -1", "-1 2"];
 
 const B2: &[&str] = &["2 -1", "-2 2"];
 
@@ -77,13 +87,35 @@ fn jobs_that_break_a_rule(rt: HostRuntime) -> Result<(), Fail> {
         ),
         (A1, "4", "1 1", "0", "prime 4"),
         (A1, "63", "1 1", "0", "prime 63"),
+        (A1, "67", "1 1", "0", "prime 67"),
         (A1, "2", "1 2", "0", "letter 0"),
         (A1, "2", "2 1 1", "0", "reduced 0"),
         (A6, "2", A6_LONGEST, "0", "vertices 4097"),
         (A1, "3", "1 1", "7", "degree 7"),
         (D5, "3", D5_LONGEST, "6", "size 403200"),
     ] {
-        let text = job(rt.alloc(), rows, prime, word, degree)?;
+        let written = format!(in rt.alloc(); "job {rule}\n")?;
+        for (head, command) in [(PLAIN, "gkm"), (ROOT, "graph"), (WEIGHT, "gkm")] {
+            let text = job(rt.alloc(), head, rows, prime, word, degree)?;
+            assert_run(&rt, rt.alloc(), command, &text, Status::BadJob, &written)?;
+        }
+    }
+    Ok(())
+}
+
+/// By the fundamental weights a label may be zero, which is told behind the sizes and before parallel labels.
+#[test]
+fn jobs_with_a_zero_label(rt: HostRuntime) -> Result<(), Fail> {
+    for (rows, prime, word, degree, rule) in [
+        (A1, "2", "1 1", "0", "label 0 1"),
+        (A1, "2", "1 1", "7", "degree 7"),
+        // The first edge has the label 2 0 or 0 2; both are zero, and parallel.
+        (&["2 0", "0 2"], "2", "2 1 2", "0", "label 0 1"),
+        // The root (1, 0) gives 2 -2, and in the dual system (0, 1) gives -2 2, while (1, 0) gives 2 -1.
+        (B2, "2", WHOLE_B2, "0", "label 0 1"),
+        (&["2 -2", "-1 2"], "2", WHOLE_B2, "0", "label 0 2"),
+    ] {
+        let text = job(rt.alloc(), WEIGHT, rows, prime, word, degree)?;
         let written = format!(in rt.alloc(); "job {rule}\n")?;
         for command in ["gkm", "graph"] {
             assert_run(&rt, rt.alloc(), command, &text, Status::BadJob, &written)?;
@@ -91,6 +123,40 @@ fn jobs_that_break_a_rule(rt: HostRuntime) -> Result<(), Fail> {
     }
     Ok(())
 }
+
+/// The roots of A2 by the fundamental weights are 2 -1, -1 2 and 1 1.
+#[test]
+fn jobs_by_the_fundamental_weights(rt: HostRuntime) -> Result<(), Fail> {
+    let parallel = "gkm vertex 0 edges 0 1\n";
+    for (head, rows, prime, word, command, status, written) in [
+        (WEIGHT, A2, "3", "2 1 2", "gkm", Status::GkmFailed, parallel),
+        (ROOT, A2, "3", "2 1 2", "gkm", Status::Done, SQUARE_HOLDS),
+        (WEIGHT, A2, "5", "2 1 2", "gkm", Status::Done, SQUARE_HOLDS),
+        (WEIGHT, A1, "3", "1 1", "graph", Status::Done, WEIGHT_LINE),
+        (WEIGHT, A2, "5", "2 1 2", "graph", Status::Done, WEIGHT_SQUARE),
+    ] {
+        let text = job(rt.alloc(), head, rows, prime, word, "0")?;
+        assert_run(&rt, rt.alloc(), command, &text, status, written)?;
+    }
+    Ok(())
+}
+
+const SQUARE_HOLDS: &str = "gkm holds vertices 4 edges 4\n";
+
+const WEIGHT_LINE: &str = "vertices 2\nvertex 0 0 1\nvertex 1 1 -1\nedges 1\nedge 0 1 2\n";
+
+const WEIGHT_SQUARE: &str = "\
+vertices 4
+vertex 0 0 1 0 0 1
+vertex 1 1 -1 1 0 1
+vertex 2 1 1 0 1 -1
+vertex 3 2 0 -1 1 -1
+edges 4
+edge 0 1 2 4
+edge 0 2 4 2
+edge 1 3 1 1
+edge 2 3 2 4
+";
 
 #[test]
 fn jobs_with_the_gkm_condition(rt: HostRuntime) -> Result<(), Fail> {
@@ -106,7 +172,7 @@ fn jobs_with_the_gkm_condition(rt: HostRuntime) -> Result<(), Fail> {
             "gkm holds vertices 1920 edges 19200\n",
         ),
     ] {
-        let text = job(rt.alloc(), rows, prime, word, degree)?;
+        let text = job(rt.alloc(), PLAIN, rows, prime, word, degree)?;
         assert_run(&rt, rt.alloc(), "gkm", &text, Status::Done, written)?;
     }
     Ok(())
@@ -116,7 +182,7 @@ const WHOLE_B2: &str = "4 1 2 1 2";
 
 #[test]
 fn a_job_without_the_gkm_condition_has_a_graph(rt: HostRuntime) -> Result<(), Fail> {
-    let text = job(rt.alloc(), B2, "2", WHOLE_B2, "0")?;
+    let text = job(rt.alloc(), PLAIN, B2, "2", WHOLE_B2, "0")?;
     let line = "gkm vertex 0 edges 0 3\n";
     assert_run(&rt, rt.alloc(), "gkm", &text, Status::GkmFailed, line)?;
     let graph = "\
@@ -152,7 +218,7 @@ edge 6 7 1 0
 
 #[test]
 fn the_graph_of_a_line(rt: HostRuntime) -> Result<(), Fail> {
-    let text = job(rt.alloc(), A1, "2", "1 1", "0")?;
+    let text = job(rt.alloc(), PLAIN, A1, "2", "1 1", "0")?;
     let graph = "vertices 2\nvertex 0 0 1\nvertex 1 1 -1\nedges 1\nedge 0 1 1\n";
     assert_run(&rt, rt.alloc(), "graph", &text, Status::Done, graph)
 }
@@ -161,7 +227,17 @@ fn the_graph_of_a_line(rt: HostRuntime) -> Result<(), Fail> {
 fn job_texts_have_their_first_fault(rt: HostRuntime) -> Result<(), Fail> {
     for (text, written) in [
         ("", "text line 1 kind MissingLine\n"),
-        ("bmp-job 2\n", "text line 1 kind OutOfRange\n"),
+        ("bmp-job 3\n", "text line 1 kind OutOfRange\n"),
+        ("bmp-job 2\n", "text line 2 kind MissingLine\n"),
+        ("bmp-job 2\nrank 1\n", "text line 2 kind WrongKeyword\n"),
+        ("bmp-job 1\nlattice 1\n", "text line 2 kind WrongKeyword\n"),
+        ("bmp-job 2\nlattice 2\n", "text line 2 kind OutOfRange\n"),
+        ("bmp-job 2\nlattice\n", "text line 2 kind WrongCount\n"),
+        ("bmp-job 2\nlattice 0 1\n", "text line 2 kind WrongCount\n"),
+        (
+            "bmp-job 2\nlattice 0\nlattice 0\n",
+            "text line 3 kind WrongKeyword\n",
+        ),
         ("bmp-cert 1\n", "text line 1 kind WrongKeyword\n"),
         ("bmp-job 1\nrank 17\n", "text line 2 kind OutOfRange\n"),
         (

@@ -1,6 +1,6 @@
 //! Jobs there and back, and the rules that they keep or break.
 use bmp_cert::{
-    CertError, Job, JobError, JobFault, accept_job, prepare_job, print_job, read_job,
+    CertError, Job, JobError, JobFault, Lattice, accept_job, prepare_job, print_job, read_job,
     well_formed_job,
 };
 use bmp_roots::CartanFault;
@@ -14,12 +14,28 @@ fn job(alloc: Global) -> Result<Job, CertError> {
     read_job(alloc, JOB.as_bytes())
 }
 
+/// The same in the other lattices.
+const ROOT_JOB: &str =
+    "bmp-job 2\nlattice 0\nrank 2\nrow 2 -1\nrow -1 2\nprime 3\nword 2 1 2\ndegree 0\nend\n";
+
+const WEIGHT_JOB: &str =
+    "bmp-job 2\nlattice 1\nrank 2\nrow 2 -1\nrow -1 2\nprime 3\nword 2 1 2\ndegree 0\nend\n";
+
 #[test]
 fn reads_and_prints_a_job(rt: HostRuntime) -> Result<(), Fail> {
-    let job = job(rt.alloc())?;
-    assert!(rt; well_formed_job(&job));
-    let text = print_job(rt.alloc(), &job)?;
-    assert_eq!(rt; text.as_slice(), JOB.as_bytes());
+    for (text, lattice) in [
+        (JOB, Lattice::Plain),
+        (ROOT_JOB, Lattice::Root),
+        (WEIGHT_JOB, Lattice::Weight),
+    ] {
+        let job = read_job(rt.alloc(), text.as_bytes())?;
+        assert!(rt; well_formed_job(&job));
+        let printed = print_job(rt.alloc(), &job)?;
+        assert_eq!(rt;
+            (job.lattice, printed.as_slice()),
+            (lattice, text.as_bytes())
+        );
+    }
     Ok(())
 }
 

@@ -11,3 +11,5 @@ mod ports;
 mod report;
 #[cfg(test)]
 mod text;
+#[cfg(test)]
+mod versions;

@@ -28,6 +28,11 @@ fn names_job_faults(rt: HostRuntime) -> Result<(), AllocError> {
         (2, JobFault::Finite(far), "job finite coordinate 31 30\n"),
         // The root has as many coordinates as the rank, those that are 0 too.
         (3, JobFault::Finite(far), "job finite coordinate 31 30 0\n"),
+        (
+            1,
+            JobFault::ZeroLabel { lower: 0, upper: 1 },
+            "job label 0 1\n",
+        ),
         (2, JobFault::Gkm(parallel), "gkm vertex 1 edges 0 2\n"),
     ] {
         let line = job_line(rt.alloc(), rank, &fault)?;

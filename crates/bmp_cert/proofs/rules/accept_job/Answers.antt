@@ -1,6 +1,8 @@
-use Rattle.bmp_cert.specs.JobRules.{IsFirstFault}
-use Rattle.bmp_cert.specs.JobViews.{graph_of}
+use Rattle.std.proofs.Common.{[], ◌∷◌}
+use Rattle.bmp_cert.specs.JobRules.{HasGkmGraph, graph_rules, rules, IsFirstFault}
+use Rattle.bmp_cert.specs.JobViews.{prepared_of, graph_of}
 use Rattle.bmp_cert.specs.declared.job_fault.JobFault.TheVariants.{Gkm}
+use Rattle.bmp_cert.proofs.RuleLemmas.{keeps_both, not_kept}
 use Rattle.bmp_cert.proofs.GraphLemmas.{gkm_fault}
 use Rattle.bmp_cert.proofs.rules.accept_job.Goals as goal
 
@@ -11,4 +13,4 @@ returns-in-Err-clause-fault c =
 pub returns-in-Err-clause-only : goal.returns-in-Err-clause-only
 returns-in-Err-clause-only c = λ kept.
     let fault : IsFirstFault c.args.j.now (Gkm c.in-Err.pair) = returns-in-Err-clause-fault c in
-    absurd (fault.broken kept.1)
+    absurd (not_kept c.args.j.now rules 9 fault.fails kept)

@@ -1,12 +1,13 @@
+use Rattle.std.proofs.Common.{ℕ, ◌<◌}
+use Rattle.bmp_check.specs.NumberedBlocks.{PassesAt}
+use Rattle.bmp_check.specs.Settings.{shaped_in}
 use Rattle.bmp_check.specs.Shaped.{IsRoomFor}
-use Rattle.bmp_check.specs.ShapedViews.{graph_in, cert_in}
-use Rattle.bmp_check.specs.Verdicts.{BlockPasses}
-use Rattle.bmp_check.proofs.BlockLemmas.{HoldsBefore}
+use Rattle.bmp_check.specs.ShapedViews.{graph_in, method_at, cert_in}
 use Rattle.bmp_check.proofs.whole.check_blocks.Given as goal
 
 -- the blocks so far pass
 abbrev pub invariant-each : goal.invariant-each
 invariant-each l = record {
-  passed : HoldsBefore (BlockPasses (graph_in l.s) 1 (cert_in l.s)) l.vertices l.degree l.i;
-  room : IsRoomFor (graph_in l.s) (cert_in l.s) l.scratch;
+  passed : (k : ℕ) → k < l.i → PassesAt (shaped_in l.s) k;
+  room : IsRoomFor (graph_in (shaped_in l.s)) (method_at (shaped_in l.s)) (cert_in (shaped_in l.s)) l.scratch;
 }

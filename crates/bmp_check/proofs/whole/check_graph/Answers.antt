@@ -1,11 +1,7 @@
-use Rattle.std.proofs.Common.{◌≡◌, ℕ, sym, subst}
+use Rattle.std.proofs.Common.{ap, ◌∙◌}
 use Rattle.std.proofs.lemmas.Result.{err_from_is_err_and}
-use Rattle.bmp_graph.specs.Graph.{Graph}
 use Rattle.bmp_cert.specs.Counts.{Written}
-use Rattle.bmp_check.specs.Accepted.{IsCheckable}
-use Rattle.bmp_check.specs.CheckErrors.{IsRefusedBy}
-use Rattle.bmp_check.specs.ShapedViews.{graph_in, cert_in}
-use Rattle.bmp_check.specs.Verdicts.{Passes, IsFirstRefusal}
+use Rattle.bmp_check.specs.ShapedViews.{graph_in, version_in, cert_in}
 use Rattle.bmp_check.proofs.WholeLemmas.{all_pass, block_refused}
 use Rattle.bmp_check.proofs.Soundness.{passed_is_braden_macpherson, passed_generators_are_bounded, passed_counts_are_dimensions}
 use Rattle.bmp_check.proofs.whole.check_graph.Goals as goal
@@ -13,9 +9,10 @@ use Rattle.bmp_check.proofs.whole.check_graph.Goals as goal
 pub returns-clause-passes : goal.returns-clause-passes
 returns-clause-passes g c =
     let w : Written = record { degree = c.args.degree; parts = c.args.parts.now } in
-    subst (λ (v : ℕ). Passes c.args.graph.now v w) (sym c.requires.checkable.version)
-    (all_pass c.args.graph.now w (graph_in c.in_ok-shaped.shaped) (cert_in c.in_ok-shaped.shaped) c.in_ok-shaped.ensures.graph c.in_ok-shaped.ensures.cert
-    c.in_ok-sizes.ensures.count c.in_ok-sizes.ensures.shape c.in_ok-check_top.ensures.first c.in_ok-check_blocks.ensures.ok)
+    let shaped = c.in_ok-shaped.ensures in
+    let set = c.in_ok-setting.ensures.shaped in
+    all_pass c.args.graph.now c.args.version w (ap graph_in set ∙ shaped.graph) (ap version_in set ∙ shaped.version) (ap cert_in set ∙ shaped.cert) c.in_ok-sizes.ensures.count c.in_ok-sizes.ensures.shape
+    c.in_ok-check_top.ensures.first c.in_ok-check_blocks.ensures.ok
 
 pub returns-clause-sheaf : goal.returns-clause-sheaf
 returns-clause-sheaf g c =
@@ -34,16 +31,15 @@ returns-clause-dimensions g c =
 
 pub returns-in_err-check_blocks-clause-refused : goal.returns-in_err-check_blocks-clause-refused
 returns-in_err-check_blocks-clause-refused g c =
-    let G = c.args.graph.now in
     let w : Written = record { degree = c.args.degree; parts = c.args.parts.now } in
     let r = c.in_err-check_blocks.field-0.0 in
-    let s = c.in_ok-shaped.shaped in
+    let shaped = c.in_ok-shaped.ensures in
+    let set = c.in_ok-setting.ensures.shaped in
     let p =
     err_from_is_err_and c.from_residual-in_err-check_blocks.result c.from_residual-in_err-check_blocks.ensures.1 in
-    let first : IsFirstRefusal G 1 w r =
-    block_refused G w (graph_in s) (cert_in s) r c.in_ok-shaped.ensures.graph c.in_ok-shaped.ensures.cert c.in_ok-sizes.ensures.count
-    c.in_ok-sizes.ensures.shape c.in_ok-check_top.ensures.first c.in_err-check_blocks.ensures.first in
     rw (p.1, p.2) (
-      subst (λ (v : ℕ). IsFirstRefusal G v w r) (sym c.requires.checkable.version) first,
+      block_refused c.args.graph.now c.args.version w (ap graph_in set ∙ shaped.graph) (ap version_in set ∙ shaped.version) (ap cert_in set ∙ shaped.cert) r
+      c.in_ok-sizes.ensures.count
+      c.in_ok-sizes.ensures.shape c.in_ok-check_top.ensures.first c.in_err-check_blocks.ensures.first,
       c.in_err-check_blocks.ensures.differ,
     )
