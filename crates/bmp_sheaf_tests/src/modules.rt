@@ -3,9 +3,11 @@ ghost use Rattle.std.specs.Prelude.{◌≡◌, ◌≤◌, ◌+◌, [], ◌∷◌
 ghost use Rattle.bmp_poly.specs.Exponents.{IsMonomial};
 ghost use Rattle.bmp_module.specs.FreeModules.{rank_of, degrees_of};
 
-use bmp_field::PrimeField;
-use bmp_field::Field;
-use bmp_module::{Coordinates, Free, GradedModule, Linear, ModuleMap, NormalTable, Projection, Quotient, TabledQuotient, Tuple};
+use bmp_field::{Field, PrimeField};
+use bmp_module::{
+    Coordinates, Free, GradedModule, Linear, ModuleMap, NormalTable, Projection, Quotient,
+    TabledQuotient, Tuple,
+};
 use bmp_poly::Label;
 use std::alloc::{AllocError, Global};
 use std::test::Fail;
@@ -94,22 +96,22 @@ fn the_variable(rt: HostRuntime) -> Result<(), Fail> {
 fn acts<F: Field, M: GradedModule<F>>(
     alloc: Global,
     f: &F,
-    module: &M,
+    over: &M,
     m: [u8; 6],
     e: &M::Elem,
     want: &M::Elem,
 ) -> Result<bool, AllocError>
-    requires fits { M.fits module.now (F.size f.now) }
-    requires element { M.is_element module.now f.now e.now }
-    requires want { M.is_element module.now f.now want.now }
-    requires monomial { IsMonomial 6 (M.rank module.now) (sum m) m }
-    requires degree { M.degree module.now e.now + sum m ≤ 6 }
-    requires same { M.degree module.now want.now ≡ M.degree module.now e.now + sum m }
+    requires fits { M.fits over.now (F.size f.now) }
+    requires element { M.is_element over.now f.now e.now }
+    requires want { M.is_element over.now f.now want.now }
+    requires monomial { IsMonomial 6 (M.rank over.now) (sum m) m }
+    requires degree { M.degree over.now e.now + sum m ≤ 6 }
+    requires same { M.degree over.now want.now ≡ M.degree over.now e.now + sum m }
 {
-    let multiple = module.act(alloc, f, m, e)?;
-    let mut sum = module.zero(alloc, f, module.degree(&multiple))?;
-    module.add_in(f, &mut sum, &multiple);
-    Ok(module.same(f, &sum, want))
+    let multiple = over.act(alloc, f, m, e)?;
+    let mut sum = over.zero(alloc, f, over.degree(&multiple))?;
+    over.add_in(f, &mut sum, &multiple);
+    Ok(over.same(f, &sum, want))
 }
 
 /// Whether the map that sends the only generator to `image` sends `e` to `want`.
@@ -130,55 +132,73 @@ fn sends<F: Field, N: GradedModule<F>>(
     requires want { N.is_element over.now f.now want.now }
     requires same { N.degree over.now want.now ≡ ⟦<Free as GradedModule<F>>⟧.degree from.now e.now }
 {
-    let images = vec![in alloc; image]?;
+    let mut images = Vec::new(alloc);
+    images.push(image)?;
     let map = Linear::new(from, over, &images);
     let sent = map.apply(alloc, f, e)?;
     Ok(over.same(f, &sent, want))
 }
 
-/// Modulo 3 and x + y the variable x is twice y, by products, by images of elements and by a table, in its degrees and past them. A
-/// sum of no parts has 0 alone, and is a module over two variables too.
+/// Modulo 3 and x + y the variable x is twice y, and not y.
 #[test]
-fn elements_modulo_a_label(rt: HostRuntime) -> Result<(), Fail> {
-    let alloc = rt.alloc();
+fn equal_modulo_a_label(rt: HostRuntime) -> Result<(), Fail> {
     let f = PrimeField::new(3).map_err(|_| "3")?;
-    let free = Free::new(alloc, 2, &[0])?;
+    let free = Free::new(rt.alloc(), 2, &[0])?;
     let label = Label::new(3, 2, [1, 1, 0, 0, 0, 0]).map_err(|_| "a label")?;
-    let quotient = Quotient::new(alloc, &free, &label)?;
-    let tables = (
-        NormalTable::new(alloc, &f, &label, 0)?,
-        NormalTable::new(alloc, &f, &label, 1)?,
-    );
-    let past = TabledQuotient::new(&quotient, &tables.0);
-    let tabled = TabledQuotient::new(&quotient, &tables.1);
+    let quotient = Quotient::new(rt.alloc(), &free, &label)?;
     let projection = Projection::new(&quotient);
-    let (x, y) = ([1, 0, 0, 0, 0, 0], [0, 1, 0, 0, 0, 0]);
-    let one = free.generator(alloc, &f, 0)?;
-    let first = free.act(alloc, &f, x, &one)?;
-    let mut second = free.act(alloc, &f, y, &one)?;
-    let apart = projection.same(alloc, &f, &first, &second)?;
+    let one = free.generator(rt.alloc(), &f, 0)?;
+    let first = free.act(rt.alloc(), &f, [1, 0, 0, 0, 0, 0], &one)?;
+    let mut second = free.act(rt.alloc(), &f, [0, 1, 0, 0, 0, 0], &one)?;
+    let once = projection.same(rt.alloc(), &f, &first, &second)?;
     free.scale_in(&f, &mut second, 2);
-    let own = projection.apply(alloc, &f, &one)?;
-    let image = projection.apply(alloc, &f, &first)?;
-    let twice = projection.apply(alloc, &f, &second)?;
-    let zero = quotient.zero(alloc, &f, 1)?;
-    let sum: Tuple<Free> = Tuple::new(alloc);
-    let nothing = sum.zero(alloc, &f, 1)?;
-    let rows = [
-        ("x and y", apart, false),
-        ("x and twice y", projection.same(alloc, &f, &first, &second)?, true),
-        ("images", quotient.same(&f, &image, &twice), true),
-        ("zero", quotient.same(&f, &image, &zero), false),
-        ("free", acts(alloc, &f, &free, x, &one, &first)?, true),
-        ("quotient", acts(alloc, &f, &quotient, x, &own, &twice)?, true),
-        ("table", acts(alloc, &f, &tabled, x, &own, &twice)?, true),
-        ("past the table", acts(alloc, &f, &past, x, &own, &twice)?, true),
-        ("nothing", acts(alloc, &f, &sum, x, &sum.zero(alloc, &f, 0)?, &nothing)?, true),
-        ("into the quotient", sends(alloc, &f, &free, &quotient, own, &first, &twice)?, true),
-        ("into nothing", sends(alloc, &f, &free, &sum, sum.zero(alloc, &f, 0)?, &first, &nothing)?, true),
-    ];
-    for (name, found, want) in rows {
-        assert_eq!(rt; found, want, "{name}");
-    }
+    let twice = projection.same(rt.alloc(), &f, &first, &second)?;
+    assert_eq!(rt; (once, twice), (false, true));
+    Ok(())
+}
+
+/// The variable x times 1 is x, in the quotient too, and by a table, in its degrees and past them.
+#[test]
+fn products_modulo_a_label(rt: HostRuntime) -> Result<(), Fail> {
+    let f = PrimeField::new(3).map_err(|_| "3")?;
+    let free = Free::new(rt.alloc(), 2, &[0])?;
+    let label = Label::new(3, 2, [1, 1, 0, 0, 0, 0]).map_err(|_| "a label")?;
+    let quotient = Quotient::new(rt.alloc(), &free, &label)?;
+    let projection = Projection::new(&quotient);
+    let one = free.generator(rt.alloc(), &f, 0)?;
+    let x = free.act(rt.alloc(), &f, [1, 0, 0, 0, 0, 0], &one)?;
+    let own = projection.apply(rt.alloc(), &f, &one)?;
+    let image = projection.apply(rt.alloc(), &f, &x)?;
+    let plain = acts(rt.alloc(), &f, &quotient, [1, 0, 0, 0, 0, 0], &own, &image)?;
+    let table = NormalTable::new(rt.alloc(), &f, &label, 1)?;
+    let tabled = TabledQuotient::new(&quotient, &table);
+    let within = acts(rt.alloc(), &f, &tabled, [1, 0, 0, 0, 0, 0], &own, &image)?;
+    let short = NormalTable::new(rt.alloc(), &f, &label, 0)?;
+    let past = TabledQuotient::new(&quotient, &short);
+    let past = acts(rt.alloc(), &f, &past, [1, 0, 0, 0, 0, 0], &own, &image)?;
+    assert_eq!(rt; (plain, within, past), (true, true, true));
+    Ok(())
+}
+
+/// A map to the quotient by the image of 1 sends x to x modulo the label; and one to a sum of no parts sends it to 0.
+#[test]
+fn maps_by_images(rt: HostRuntime) -> Result<(), Fail> {
+    let f = PrimeField::new(3).map_err(|_| "3")?;
+    let free = Free::new(rt.alloc(), 2, &[0])?;
+    let label = Label::new(3, 2, [1, 1, 0, 0, 0, 0]).map_err(|_| "a label")?;
+    let quotient = Quotient::new(rt.alloc(), &free, &label)?;
+    let projection = Projection::new(&quotient);
+    let one = free.generator(rt.alloc(), &f, 0)?;
+    let x = free.act(rt.alloc(), &f, [1, 0, 0, 0, 0, 0], &one)?;
+    let own = projection.apply(rt.alloc(), &f, &one)?;
+    let image = projection.apply(rt.alloc(), &f, &x)?;
+    let sent = sends(rt.alloc(), &f, &free, &quotient, own, &x, &image)?;
+    assert!(rt; sent);
+    let sum: Tuple<Free> = Tuple::new(rt.alloc());
+    let own = sum.zero(rt.alloc(), &f, 0)?;
+    let zero = sum.zero(rt.alloc(), &f, 1)?;
+    assert!(rt; acts(rt.alloc(), &f, &sum, [1, 0, 0, 0, 0, 0], &own, &zero)?);
+    let gone = sends(rt.alloc(), &f, &free, &sum, own, &x, &zero)?;
+    assert!(rt; gone);
     Ok(())
 }
