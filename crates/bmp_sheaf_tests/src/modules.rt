@@ -1,7 +1,9 @@
 //! Graded modules and maps between them.
 ghost use Rattle.std.specs.Prelude.{◌≡◌, ◌≤◌, ◌+◌, [], ◌∷◌, sum};
 ghost use Rattle.bmp_poly.specs.Exponents.{IsMonomial};
+ghost use Rattle.bmp_poly.specs.Labels.{prime_of};
 ghost use Rattle.bmp_module.specs.FreeModules.{rank_of, degrees_of};
+ghost use Rattle.bmp_module.specs.QuotientModules.{free_of, label_of};
 
 use bmp_field::{Field, PrimeField};
 use bmp_module::{
@@ -139,66 +141,121 @@ fn sends<F: Field, N: GradedModule<F>>(
     Ok(over.same(f, &sent, want))
 }
 
-/// Modulo 3 and x + y the variable x is twice y, and not y.
-#[test]
-fn equal_modulo_a_label(rt: HostRuntime) -> Result<(), Fail> {
-    let f = PrimeField::new(3).map_err(|_| "3")?;
-    let free = Free::new(rt.alloc(), 2, &[0])?;
-    let label = Label::new(3, 2, [1, 1, 0, 0, 0, 0]).map_err(|_| "a label")?;
-    let quotient = Quotient::new(rt.alloc(), &free, &label)?;
-    let projection = Projection::new(&quotient);
-    let one = free.generator(rt.alloc(), &f, 0)?;
-    let first = free.act(rt.alloc(), &f, [1, 0, 0, 0, 0, 0], &one)?;
-    let mut second = free.act(rt.alloc(), &f, [0, 1, 0, 0, 0, 0], &one)?;
-    let once = projection.same(rt.alloc(), &f, &first, &second)?;
-    free.scale_in(&f, &mut second, 2);
-    let twice = projection.same(rt.alloc(), &f, &first, &second)?;
-    assert_eq!(rt; (once, twice), (false, true));
-    Ok(())
+/// Whether the variable x and `c` times y, in the free module on 1, are the same modulo the label.
+fn equal_variables<F: Field>(
+    alloc: Global,
+    f: &F,
+    quotient: &Quotient,
+    c: F::E,
+) -> Result<bool, AllocError>
+    requires prime { F.size f.now ≡ prime_of (label_of quotient.now) }
+    requires value { F.is_value f.now c }
+    requires rank { 2 ≤ rank_of (free_of quotient.now) }
+    requires generator { degrees_of (free_of quotient.now) ≡ 0 ∷ [] }
+{
+    let free = quotient.free();
+    let one = free.generator(alloc, f, 0)?;
+    let first = free.act(alloc, f, [1, 0, 0, 0, 0, 0], &one)?;
+    let mut second = free.act(alloc, f, [0, 1, 0, 0, 0, 0], &one)?;
+    free.scale_in(f, &mut second, c);
+    let projection = Projection::new(quotient);
+    let same = projection.same(alloc, f, &first, &second)?;
+    Ok(same)
 }
 
-/// The variable x times 1 is x, in the quotient too, and by a table, in its degrees and past them.
-#[test]
-fn products_modulo_a_label(rt: HostRuntime) -> Result<(), Fail> {
-    let f = PrimeField::new(3).map_err(|_| "3")?;
-    let free = Free::new(rt.alloc(), 2, &[0])?;
-    let label = Label::new(3, 2, [1, 1, 0, 0, 0, 0]).map_err(|_| "a label")?;
-    let quotient = Quotient::new(rt.alloc(), &free, &label)?;
-    let projection = Projection::new(&quotient);
-    let one = free.generator(rt.alloc(), &f, 0)?;
-    let x = free.act(rt.alloc(), &f, [1, 0, 0, 0, 0, 0], &one)?;
-    let own = projection.apply(rt.alloc(), &f, &one)?;
-    let image = projection.apply(rt.alloc(), &f, &x)?;
-    let plain = acts(rt.alloc(), &f, &quotient, [1, 0, 0, 0, 0, 0], &own, &image)?;
-    let table = NormalTable::new(rt.alloc(), &f, &label, 1)?;
-    let tabled = TabledQuotient::new(&quotient, &table);
-    let within = acts(rt.alloc(), &f, &tabled, [1, 0, 0, 0, 0, 0], &own, &image)?;
-    let short = NormalTable::new(rt.alloc(), &f, &label, 0)?;
-    let past = TabledQuotient::new(&quotient, &short);
-    let past = acts(rt.alloc(), &f, &past, [1, 0, 0, 0, 0, 0], &own, &image)?;
-    assert_eq!(rt; (plain, within, past), (true, true, true));
-    Ok(())
+/// Whether x times 1 is x modulo the label, by a table for the degrees from 0 to `degree`.
+fn product_by_table<F: Field>(
+    alloc: Global,
+    f: &F,
+    quotient: &Quotient,
+    degree: u32,
+) -> Result<bool, AllocError>
+    requires prime { F.size f.now ≡ prime_of (label_of quotient.now) }
+    requires rank { 2 ≤ rank_of (free_of quotient.now) }
+    requires generator { degrees_of (free_of quotient.now) ≡ 0 ∷ [] }
+    requires degree { degree ≤ 6 }
+{
+    let free = quotient.free();
+    let projection = Projection::new(quotient);
+    let one = free.generator(alloc, f, 0)?;
+    let x = free.act(alloc, f, [1, 0, 0, 0, 0, 0], &one)?;
+    let own = projection.apply(alloc, f, &one)?;
+    let image = projection.apply(alloc, f, &x)?;
+    let table = NormalTable::new(alloc, f, quotient.label(), degree)?;
+    let tabled = TabledQuotient::new(quotient, &table);
+    let same = acts(alloc, f, &tabled, [1, 0, 0, 0, 0, 0], &own, &image)?;
+    Ok(same)
 }
 
-/// A map to the quotient by the image of 1 sends x to x modulo the label; and one to a sum of no parts sends it to 0.
+/// Whether the map that sends 1 to itself modulo the label sends x to x modulo the label.
+fn image_in_the_quotient<F: Field>(
+    alloc: Global,
+    f: &F,
+    quotient: &Quotient,
+) -> Result<bool, AllocError>
+    requires prime { F.size f.now ≡ prime_of (label_of quotient.now) }
+    requires rank { 2 ≤ rank_of (free_of quotient.now) }
+    requires generator { degrees_of (free_of quotient.now) ≡ 0 ∷ [] }
+{
+    let free = quotient.free();
+    let projection = Projection::new(quotient);
+    let one = free.generator(alloc, f, 0)?;
+    let x = free.act(alloc, f, [1, 0, 0, 0, 0, 0], &one)?;
+    let own = projection.apply(alloc, f, &one)?;
+    let image = projection.apply(alloc, f, &x)?;
+    let same = sends(alloc, f, free, quotient, own, &x, &image)?;
+    Ok(same)
+}
+
+/// Whether a map to the sum of no parts sends x to 0, and x times 0 is 0 there.
+fn image_in_nothing<F: Field>(alloc: Global, f: &F, free: &Free) -> Result<bool, AllocError>
+    requires rank { 2 ≤ rank_of free.now }
+    requires generator { degrees_of free.now ≡ 0 ∷ [] }
+{
+    let one = free.generator(alloc, f, 0)?;
+    let x = free.act(alloc, f, [1, 0, 0, 0, 0, 0], &one)?;
+    let sum: Tuple<Free> = Tuple::new(alloc);
+    let own = sum.zero(alloc, f, 0)?;
+    let zero = sum.zero(alloc, f, 1)?;
+    let acted = acts(alloc, f, &sum, [1, 0, 0, 0, 0, 0], &own, &zero)?;
+    let sent = sends(alloc, f, free, &sum, own, &x, &zero)?;
+    Ok(acted && sent)
+}
+
+/// Modulo 3 and x + y the variable x is twice y, and not y. Products are those of a table, in its degrees and past them, and a
+/// map is known by the image of 1.
 #[test]
-fn maps_by_images(rt: HostRuntime) -> Result<(), Fail> {
+fn elements_modulo_a_label(rt: HostRuntime) -> Result<(), Fail> {
     let f = PrimeField::new(3).map_err(|_| "3")?;
     let free = Free::new(rt.alloc(), 2, &[0])?;
     let label = Label::new(3, 2, [1, 1, 0, 0, 0, 0]).map_err(|_| "a label")?;
     let quotient = Quotient::new(rt.alloc(), &free, &label)?;
-    let projection = Projection::new(&quotient);
-    let one = free.generator(rt.alloc(), &f, 0)?;
-    let x = free.act(rt.alloc(), &f, [1, 0, 0, 0, 0, 0], &one)?;
-    let own = projection.apply(rt.alloc(), &f, &one)?;
-    let image = projection.apply(rt.alloc(), &f, &x)?;
-    let sent = sends(rt.alloc(), &f, &free, &quotient, own, &x, &image)?;
-    assert!(rt; sent);
-    let sum: Tuple<Free> = Tuple::new(rt.alloc());
-    let own = sum.zero(rt.alloc(), &f, 0)?;
-    let zero = sum.zero(rt.alloc(), &f, 1)?;
-    assert!(rt; acts(rt.alloc(), &f, &sum, [1, 0, 0, 0, 0, 0], &own, &zero)?);
-    let gone = sends(rt.alloc(), &f, &free, &sum, own, &x, &zero)?;
-    assert!(rt; gone);
+    let rows = [
+        ("y", equal_variables(rt.alloc(), &f, &quotient, 1)?, false),
+        (
+            "twice y",
+            equal_variables(rt.alloc(), &f, &quotient, 2)?,
+            true,
+        ),
+        (
+            "past the table",
+            product_by_table(rt.alloc(), &f, &quotient, 0)?,
+            true,
+        ),
+        (
+            "by the table",
+            product_by_table(rt.alloc(), &f, &quotient, 1)?,
+            true,
+        ),
+        (
+            "image",
+            image_in_the_quotient(rt.alloc(), &f, &quotient)?,
+            true,
+        ),
+        ("nothing", image_in_nothing(rt.alloc(), &f, &free)?, true),
+    ];
+    for (name, found, want) in rows {
+        assert_eq!(rt; found, want, "{name}");
+    }
     Ok(())
 }
