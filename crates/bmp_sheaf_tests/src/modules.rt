@@ -1,7 +1,9 @@
 //! Graded modules and maps between them.
 ghost use Rattle.std.specs.Prelude.{◌≡◌, ◌≤◌, ◌+◌, [], ◌∷◌, sum};
 ghost use Rattle.bmp_poly.specs.Exponents.{IsMonomial};
+ghost use Rattle.bmp_poly.specs.Labels.{prime_of};
 ghost use Rattle.bmp_module.specs.FreeModules.{rank_of, degrees_of};
+ghost use Rattle.bmp_module.specs.QuotientModules.{free_of, label_of};
 
 use bmp_field::{Field, PrimeField};
 use bmp_module::{
@@ -96,22 +98,22 @@ fn the_variable(rt: HostRuntime) -> Result<(), Fail> {
 fn acts<F: Field, M: GradedModule<F>>(
     alloc: Global,
     f: &F,
-    module: &M,
+    over: &M,
     m: [u8; 6],
     e: &M::Elem,
     want: &M::Elem,
 ) -> Result<bool, AllocError>
-    requires fits { M.fits module.now (F.size f.now) }
-    requires element { M.is_element module.now f.now e.now }
-    requires want { M.is_element module.now f.now want.now }
-    requires monomial { IsMonomial 6 (M.rank module.now) (sum m) m }
-    requires degree { M.degree module.now e.now + sum m ≤ 6 }
-    requires same { M.degree module.now want.now ≡ M.degree module.now e.now + sum m }
+    requires fits { M.fits over.now (F.size f.now) }
+    requires element { M.is_element over.now f.now e.now }
+    requires want { M.is_element over.now f.now want.now }
+    requires monomial { IsMonomial 6 (M.rank over.now) (sum m) m }
+    requires degree { M.degree over.now e.now + sum m ≤ 6 }
+    requires same { M.degree over.now want.now ≡ M.degree over.now e.now + sum m }
 {
-    let multiple = module.act(alloc, f, m, e)?;
-    let mut sum = module.zero(alloc, f, module.degree(&multiple))?;
-    module.add_in(f, &mut sum, &multiple);
-    Ok(module.same(f, &sum, want))
+    let multiple = over.act(alloc, f, m, e)?;
+    let mut sum = over.zero(alloc, f, over.degree(&multiple))?;
+    over.add_in(f, &mut sum, &multiple);
+    Ok(over.same(f, &sum, want))
 }
 
 /// Whether the map that sends the only generator to `image` sends `e` to `want`.
@@ -132,84 +134,125 @@ fn sends<F: Field, N: GradedModule<F>>(
     requires want { N.is_element over.now f.now want.now }
     requires same { N.degree over.now want.now ≡ ⟦<Free as GradedModule<F>>⟧.degree from.now e.now }
 {
-    let images = vec![in alloc; image]?;
+    let mut images = Vec::new(alloc);
+    images.push(image)?;
     let map = Linear::new(from, over, &images);
     let sent = map.apply(alloc, f, e)?;
     Ok(over.same(f, &sent, want))
 }
 
-/// Modulo 3 and x + y the variable x is twice y, by products, by images of elements and by a table, in its degrees and past them. A
-/// sum of no parts has 0 alone, and is a module over two variables too.
+/// Whether the variable x and `c` times y, in the free module on 1, are the same modulo the label.
+fn equal_variables<F: Field>(
+    alloc: Global,
+    f: &F,
+    quotient: &Quotient,
+    c: F::E,
+) -> Result<bool, AllocError>
+    requires prime { F.size f.now ≡ prime_of (label_of quotient.now) }
+    requires value { F.is_value f.now c }
+    requires rank { 2 ≤ rank_of (free_of quotient.now) }
+    requires generator { degrees_of (free_of quotient.now) ≡ 0 ∷ [] }
+{
+    let free = quotient.free();
+    let one = free.generator(alloc, f, 0)?;
+    let first = free.act(alloc, f, [1, 0, 0, 0, 0, 0], &one)?;
+    let mut second = free.act(alloc, f, [0, 1, 0, 0, 0, 0], &one)?;
+    free.scale_in(f, &mut second, c);
+    let projection = Projection::new(quotient);
+    let same = projection.same(alloc, f, &first, &second)?;
+    Ok(same)
+}
+
+/// Whether x times 1 is x modulo the label, by a table for the degrees from 0 to `degree`.
+fn product_by_table<F: Field>(
+    alloc: Global,
+    f: &F,
+    quotient: &Quotient,
+    degree: u32,
+) -> Result<bool, AllocError>
+    requires prime { F.size f.now ≡ prime_of (label_of quotient.now) }
+    requires rank { 2 ≤ rank_of (free_of quotient.now) }
+    requires generator { degrees_of (free_of quotient.now) ≡ 0 ∷ [] }
+    requires degree { degree ≤ 6 }
+{
+    let free = quotient.free();
+    let projection = Projection::new(quotient);
+    let one = free.generator(alloc, f, 0)?;
+    let x = free.act(alloc, f, [1, 0, 0, 0, 0, 0], &one)?;
+    let own = projection.apply(alloc, f, &one)?;
+    let image = projection.apply(alloc, f, &x)?;
+    let table = NormalTable::new(alloc, f, quotient.label(), degree)?;
+    let tabled = TabledQuotient::new(quotient, &table);
+    let same = acts(alloc, f, &tabled, [1, 0, 0, 0, 0, 0], &own, &image)?;
+    Ok(same)
+}
+
+/// Whether the map that sends 1 to itself modulo the label sends x to x modulo the label.
+fn image_in_the_quotient<F: Field>(
+    alloc: Global,
+    f: &F,
+    quotient: &Quotient,
+) -> Result<bool, AllocError>
+    requires prime { F.size f.now ≡ prime_of (label_of quotient.now) }
+    requires rank { 2 ≤ rank_of (free_of quotient.now) }
+    requires generator { degrees_of (free_of quotient.now) ≡ 0 ∷ [] }
+{
+    let free = quotient.free();
+    let projection = Projection::new(quotient);
+    let one = free.generator(alloc, f, 0)?;
+    let x = free.act(alloc, f, [1, 0, 0, 0, 0, 0], &one)?;
+    let own = projection.apply(alloc, f, &one)?;
+    let image = projection.apply(alloc, f, &x)?;
+    let same = sends(alloc, f, free, quotient, own, &x, &image)?;
+    Ok(same)
+}
+
+/// Whether a map to the sum of no parts sends x to 0, and x times 0 is 0 there.
+fn image_in_nothing<F: Field>(alloc: Global, f: &F, free: &Free) -> Result<bool, AllocError>
+    requires rank { 2 ≤ rank_of free.now }
+    requires generator { degrees_of free.now ≡ 0 ∷ [] }
+{
+    let one = free.generator(alloc, f, 0)?;
+    let x = free.act(alloc, f, [1, 0, 0, 0, 0, 0], &one)?;
+    let sum: Tuple<Free> = Tuple::new(alloc);
+    let own = sum.zero(alloc, f, 0)?;
+    let zero = sum.zero(alloc, f, 1)?;
+    let acted = acts(alloc, f, &sum, [1, 0, 0, 0, 0, 0], &own, &zero)?;
+    let sent = sends(alloc, f, free, &sum, own, &x, &zero)?;
+    Ok(acted && sent)
+}
+
+/// Modulo 3 and x + y the variable x is twice y, and not y. Products are those of a table, in its degrees and past them, and a
+/// map is known by the image of 1.
 #[test]
 fn elements_modulo_a_label(rt: HostRuntime) -> Result<(), Fail> {
-    let alloc = rt.alloc();
     let f = PrimeField::new(3).map_err(|_| "3")?;
-    let free = Free::new(alloc, 2, &[0])?;
+    let free = Free::new(rt.alloc(), 2, &[0])?;
     let label = Label::new(3, 2, [1, 1, 0, 0, 0, 0]).map_err(|_| "a label")?;
-    let quotient = Quotient::new(alloc, &free, &label)?;
-    let tables = (
-        NormalTable::new(alloc, &f, &label, 0)?,
-        NormalTable::new(alloc, &f, &label, 1)?,
-    );
-    let past = TabledQuotient::new(&quotient, &tables.0);
-    let tabled = TabledQuotient::new(&quotient, &tables.1);
-    let projection = Projection::new(&quotient);
-    let (x, y) = ([1, 0, 0, 0, 0, 0], [0, 1, 0, 0, 0, 0]);
-    let one = free.generator(alloc, &f, 0)?;
-    let first = free.act(alloc, &f, x, &one)?;
-    let mut second = free.act(alloc, &f, y, &one)?;
-    let apart = projection.same(alloc, &f, &first, &second)?;
-    free.scale_in(&f, &mut second, 2);
-    let own = projection.apply(alloc, &f, &one)?;
-    let image = projection.apply(alloc, &f, &first)?;
-    let twice = projection.apply(alloc, &f, &second)?;
-    let zero = quotient.zero(alloc, &f, 1)?;
-    let sum: Tuple<Free> = Tuple::new(alloc);
-    let nothing = sum.zero(alloc, &f, 1)?;
+    let quotient = Quotient::new(rt.alloc(), &free, &label)?;
     let rows = [
-        ("x and y", apart, false),
+        ("y", equal_variables(rt.alloc(), &f, &quotient, 1)?, false),
         (
-            "x and twice y",
-            projection.same(alloc, &f, &first, &second)?,
+            "twice y",
+            equal_variables(rt.alloc(), &f, &quotient, 2)?,
             true,
         ),
-        ("images", quotient.same(&f, &image, &twice), true),
-        ("zero", quotient.same(&f, &image, &zero), false),
-        ("free", acts(alloc, &f, &free, x, &one, &first)?, true),
-        (
-            "quotient",
-            acts(alloc, &f, &quotient, x, &own, &twice)?,
-            true,
-        ),
-        ("table", acts(alloc, &f, &tabled, x, &own, &twice)?, true),
         (
             "past the table",
-            acts(alloc, &f, &past, x, &own, &twice)?,
+            product_by_table(rt.alloc(), &f, &quotient, 0)?,
             true,
         ),
         (
-            "nothing",
-            acts(alloc, &f, &sum, x, &sum.zero(alloc, &f, 0)?, &nothing)?,
+            "by the table",
+            product_by_table(rt.alloc(), &f, &quotient, 1)?,
             true,
         ),
         (
-            "into the quotient",
-            sends(alloc, &f, &free, &quotient, own, &first, &twice)?,
+            "image",
+            image_in_the_quotient(rt.alloc(), &f, &quotient)?,
             true,
         ),
-        (
-            "into nothing",
-            sends(
-                alloc,
-                &f,
-                &free,
-                &sum,
-                sum.zero(alloc, &f, 0)?,
-                &first,
-                &nothing,
-            )?,
-            true,
-        ),
+        ("nothing", image_in_nothing(rt.alloc(), &f, &free)?, true),
     ];
     for (name, found, want) in rows {
         assert_eq!(rt; found, want, "{name}");
