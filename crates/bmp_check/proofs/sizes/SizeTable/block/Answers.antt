@@ -1,8 +1,8 @@
 use Rattle.bmp_check.proofs.SizeLemmas.{tuples_there, block_counts}
 use Rattle.bmp_check.proofs.sizes.SizeTable.block.Goals as goal
 
-pub at-3-requires : goal.at-3-requires
-at-3-requires c = tuples_there c.requires.sizes c.requires.top c.args.x c.args.d c.requires.vertex c.requires.degree
+pub at-requires : goal.at-requires
+at-requires c = tuples_there c.requires.sizes c.requires.top c.args.x c.args.d c.requires.vertex c.requires.degree
 
 pub returns : goal.returns
 returns c =
