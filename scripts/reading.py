@@ -93,7 +93,7 @@ class House:
     """All definitions of the repository."""
 
     def __init__(self):
-        crates = re.findall(r"(?m)^(\w+)[^:#\n]*:", text_of("crates.txt"))
+        crates = [it for it in re.findall(r"(?m)^(\w+)[^:#\n]*:", text_of("crates.txt")) if not it.endswith("_tests")]
         self.order, self.specs, self.types = [], {}, {}
         for crate in crates:
             lib = f"crates/{crate}/specs/Lib.antt"

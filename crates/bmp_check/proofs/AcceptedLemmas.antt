@@ -1,6 +1,7 @@
 -- What an accepted certificate writes can be checked on the graph of its job.
 use Rattle.std.proofs.Common.{◌≡◌, ℕ, zero, suc, ◌+◌, ◌-◌, ◌<◌, ◌≤◌, Bool, true, false, IsTrue, List, [], ◌∷◌, ◌++◌, length, get_or, refl, sym, ap, subst, ◌∙◌, inl, inr, arith, true≢false}
 use Rattle.std.proofs.Math.Logic.{∥∥₁_elim}
+use mathlib.Core.Bool.{Bool-set}
 use native.Mathlib.Nat.{ℕ_set}
 use native.Mathlib.Bridge.{le_prop}
 use Rattle.std.proofs.lemmas.List.{length-map, get_or-map}
@@ -17,7 +18,7 @@ use Rattle.bmp_weyl.proofs.ElementLemmas.{same_element, element_length-product}
 use Rattle.bmp_interval.specs.Intervals.{IsInterval}
 use Rattle.bmp_interval.proofs.IntervalLemmas.{only_longest}
 use Rattle.bmp_graph.specs.Graph.{Graph, vertex_count, length_at}
-use Rattle.bmp_graph.specs.Graph.{IsGraph, IsBefore}
+use Rattle.bmp_graph.specs.Graph.{IsGraph, IsBefore, lower, upper}
 use Rattle.bmp_cover.specs.BradenMacPherson.{IsTopVertex}
 use Rattle.bmp_interval.specs.declared.interval.Interval.{Interval}
 use Rattle.bmp_cert.specs.declared.job.Job.{Job}
@@ -127,13 +128,14 @@ before_prop : (g : Graph) (d e : ℕ) → IsProp (IsBefore g d e)
 before_prop g d e (inl p) (inl q) = ap inl (le_prop p q)
 before_prop g d e (inl p) (inr q) = absurd (omega (arith, p, q.0))
 before_prop g d e (inr p) (inl q) = absurd (omega (arith, q, p.0))
-before_prop g d e (inr p) (inr q) = ap inr (hlevel (le_prop, ℕ_set) p q)
+before_prop g d e (inr p) (inr q) =
+    let same : IsProp ((lower g d ≡ lower g e) × (upper g d < upper g e)) = hlevel (le_prop, ℕ_set) in ap inr (same p q)
 
 graph_prop : (g : Graph) → IsProp (IsGraph g)
 graph_prop g = hlevel (le_prop, ℕ_set, before_prop)
 
 true_prop : (b : Bool) → IsProp (IsTrue b)
-true_prop b = hlevel (Bool_set)
+true_prop b = Bool-set b true
 
 top_prop : (g : Graph) (x : ℕ) → IsProp (IsTopVertex g x)
 top_prop g x = hlevel (le_prop)

@@ -104,20 +104,23 @@ module _ {G : Graph} {v : ℕ} {c : Written} {t : SizeTable} {F : Type 0} {s : S
         (subst (λ (w : Written). AllFit s d (λ x. ltb x (length w.parts) && ltb d (length (part_of w x).blocks)) (λ x. block_of w x d)) (sym is) all_fit)
 
     blocks_below : BlocksAreBelow s.graph (vertex_count s.graph - 1) blocks
-    blocks_below x vertex shorter =
-        let at = at_level x d (has_own x vertex shorter) in
-        let own : DegreeBlock = block_of c x d in (
-          subst (λ p. All (λ (v : List Entry). ValuesBelow v p) own.kernel.basis) (sym (prime_is at)) at.fits.kernel_below.basis_below,
-          subst (λ p. All (λ (v : List Entry). ValuesBelow v p) own.cover.covers) (sym (prime_is at))
-          (All-weaker (IsVectorIn G.prime (counts_at G Levels c x d).stalk) (λ (v : List Entry). ValuesBelow v G.prime) (λ v in_it. in_it.below) own.cover.covers at.fits.covers),
-        )
+    blocks_below = record {
+      basis = λ x vertex shorter.
+          let at = at_level x d (has_own x vertex shorter) in
+          subst (λ p. All (λ (v : List Entry). ValuesBelow v p) (block_of c x d).kernel.basis) (sym (prime_is at)) at.fits.kernel_below.basis_below;
+      covers = λ x vertex shorter.
+          let at = at_level x d (has_own x vertex shorter) in
+          let covers = (block_of c x d).cover.covers in
+          subst (λ p. All (λ (v : List Entry). ValuesBelow v p) covers) (sym (prime_is at))
+          (All-weaker (IsVectorIn G.prime (counts_at G Levels c x d).stalk) (λ (v : List Entry). ValuesBelow v G.prime) (λ v in_it. in_it.below) covers at.fits.covers);
+    }
 
     -- a list with the values of the family over the longer vertices
     module _ (x : ℕ) {list : TupleList} (same : SameList (level_vertices G (suc (length_at G x))) list (family_at G c x d)) where
       pub member_tuples : HasTuples s x d list
       member_tuples =
           let over = over_field whole.checkable.on in
-          has_tuples (subst IsGraph (sym whole.sheaf.graph) whole.checkable.on.graph)
+          has_tuples x (subst IsGraph (sym whole.sheaf.graph) whole.checkable.on.graph)
           (kept (λ (H : Graph) (S : SheafData). 2 ≤ H.prime) over.two) blocks_below
           (kept (λ (H : Graph) (S : SheafData). SameList (level_vertices H (suc (length_at H x))) list (family H S d (vertex_count H - 1) blocks (suc (length_at H x)))) same)
 

@@ -91,12 +91,13 @@ impl SizeTable {
         ensures { result ≡ counts_at graph.now (method_in c.now) (written_in c.now) x d }
     {
         let (columns, rows) = self.kernel_sizes(graph, c, x, d);
+        let tuples = self.tuples.at(x, d);
         BlockSizes {
             columns,
             rows,
             stalk: self.stalks.at(x, d),
             boundary: self.boundaries.at(x, d),
-            tuples: self.tuples.at(x, d),
+            tuples,
         }
     }
 

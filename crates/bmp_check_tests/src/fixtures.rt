@@ -1,8 +1,6 @@
 //! Graphs, and parts of their vertices as texts.
 ghost use Rattle.std.specs.Prelude.{◌≡◌, ◌≤◌, IfOk};
-ghost use Rattle.bmp_graph.specs.Graph.{vertex_count};
-ghost use Rattle.bmp_cert.specs.CertGrammar.{IsWellFormed};
-ghost use Rattle.bmp_check_tests.specs.Fixtures.{IsDiagonalSquare};
+ghost use Rattle.bmp_check_tests.specs.Fixtures.{IsLine, IsDiagonalSquare, ArePartsOf};
 
 use bmp_cert::{Cert, read_cert};
 use bmp_graph::{Edge, MomentGraph};
@@ -23,8 +21,7 @@ fn edge(prime: u8, rank: u8, lower: u32, upper: u32, coordinates: [u8; 6]) -> Re
 
 /// A vertex and one below it, over the field of two elements.
 pub fn line(alloc: Global) -> Result<MomentGraph, Fail>
-    ensures prime { IfOk result (λ g. g.prime ≡ 2) }
-    ensures vertices { IfOk result (λ g. vertex_count g ≡ 2) }
+    ensures { IfOk result IsLine }
 {
     let edge = edge(2, 1, 0, 1, [1, 0, 0, 0, 0, 0])?;
     Ok(MomentGraph::new(alloc, 1, 2, &[0, 1], &[edge])?)
@@ -49,6 +46,14 @@ pub fn diagonal_square(alloc: Global) -> Result<MomentGraph, Fail>
 pub const LINE: &[u8] = b"bmp-cert 1\nrank 1\nrow 2\nprime 2\nword 1 1\ndegree 1\nvertices 2\n\
     vertex 1 1 0\nvertex 0 1 0\nedges 1\nlift 1 0 1\nblock 0 0 1\npivots\ntuple 1 0 1\n\
     cover 1 0 1\nsource 1 0 1\ndual 1 0 1\nblock 1 0 1\npivots\ntuple 1 0 1\ncover 0\nend\n";
+
+/// The first lines of the line's certificate by levels up to degree 1, in front of the vertices.
+pub const LEVELS: &str = "bmp-cert 2\nrank 1\nrow 2\nprime 2\nword 1 1\ndegree 1\nvertices 2\n";
+/// The lines of its vertices, and of the blocks of degrees 0 and 1.
+pub const VERTICES: &str = "vertex 1 1 0\nvertex 0 1 0\nedges 1\nlift 1 0 1\n";
+pub const BLOCK_0: &str =
+    "block 0 1 1 0\npivots 0\ncover 1 0 1\nsource 1 0 1\ndual 1 0 1\nrow 1 0 1\n";
+pub const BLOCK_1: &str = "block 1 1 0 1\npivots\ncover 0\nbasis 1 0 1\n";
 
 /// The parts of the vertices 3, 2 and 1 of the square with a diagonal, up to degree 1, behind a job that nothing reads.
 const UPPER_PARTS: &str =
@@ -82,25 +87,29 @@ pub const WITHOUT_SECOND: &str = "vertex 0 1 0\nedges 3\nlift 1 0 1\nlift 1 0 1\
     block 1 2 4\npivots 0 3\ntuple 1 1 1\ntuple 1 2 1\ntuple 2 0 1 4 1\ntuple 2 3 1 5 1\nrow 1 0 1\nrow 1 1 1\n\
     cover 0\ncover 2 0 1 1 1\ncover 1 1 2\ncover 1 1 1\n";
 
-/// The parts of a text over this prime, up to degree 1.
-pub fn parts_of(alloc: Global, text: &[u8], prime: u8) -> Result<Cert, Fail>
-    ensures formed { IfOk result IsWellFormed }
-    ensures prime { IfOk result (λ c. c.job.prime ≡ prime) }
-    ensures degree { IfOk result (λ c. c.job.degree ≡ 1) }
+/// The parts of a text of this version over this prime, up to degree 1.
+pub fn parts_of(alloc: Global, text: &[u8], version: u8, prime: u8) -> Result<Cert, Fail>
+    ensures { IfOk result (ArePartsOf version prime) }
 {
     let cert = read_cert(alloc, text)?;
-    if cert.job.prime != prime || cert.job.degree != 1 {
-        return Err(Fail::new("the text is of another prime or degree"));
+    if cert.version != version || cert.job.prime != prime || cert.job.degree != 1 {
+        return Err(Fail::new("the text is of another version, prime or degree"));
     }
     Ok(cert)
 }
 
 /// Parts of the square with a diagonal, with this part of vertex 0.
 pub fn square_parts(alloc: Global, least: &str) -> Result<Cert, Fail>
-    ensures formed { IfOk result IsWellFormed }
-    ensures prime { IfOk result (λ c. c.job.prime ≡ 3) }
-    ensures degree { IfOk result (λ c. c.job.degree ≡ 1) }
+    ensures { IfOk result (ArePartsOf 1 3) }
 {
     let text = format!(in alloc; "{UPPER_PARTS}{least}end\n")?;
-    parts_of(alloc, text.as_bytes(), 3)
+    parts_of(alloc, text.as_bytes(), 1, 3)
+}
+
+/// Parts of the line by levels, with these lines of its vertices and blocks.
+pub fn line_parts(alloc: Global, vertices: &str, first: &str, second: &str) -> Result<Cert, Fail>
+    ensures { IfOk result (ArePartsOf 2 2) }
+{
+    let text = format!(in alloc; "{LEVELS}{vertices}{first}{second}end\n")?;
+    parts_of(alloc, text.as_bytes(), 2, 2)
 }

@@ -1,5 +1,7 @@
 //! The vertices above a vertex, the edge equations over them, and the check that a tuple is a section.
-ghost use Rattle.bmp_check.specs.ShapedViews.{graph_in, cert_in, IsWhole};
+ghost use Rattle.std.specs.Prelude.{◌≡◌};
+ghost use Rattle.bmp_check.specs.declared.method.Method.TheVariants.{Spaces};
+ghost use Rattle.bmp_check.specs.ShapedViews.{graph_in, method_at, cert_in, IsWhole};
 ghost use Rattle.bmp_check.specs.Verdicts.{HasBlock};
 
 use crate::fixtures::{WITH_SECOND, diagonal_square, square_parts};
@@ -36,6 +38,7 @@ fn equations_at(
     d: u32,
 ) -> Result<SparseRows<PrimeField>, AllocError>
     requires whole { IsWhole s.now }
+    requires method { method_at s.now ≡ Spaces }
     requires block { HasBlock (graph_in s.now) (cert_in s.now) x d }
 {
     let sheaf = s.sheaf();
@@ -53,11 +56,12 @@ fn section_at(
     numbers: [u8; 6],
 ) -> Result<Result<(), EdgeFault>, Fail>
     requires whole { IsWhole s.now }
+    requires method { method_at s.now ≡ Spaces }
     requires block { HasBlock (graph_in s.now) (cert_in s.now) x d }
 {
     let tuple = Vector::of_numbers(alloc, &numbers)?;
-    let sizes = s.sizes().block(s.graph(), x, d);
-    if !tuple.fits(u32::try_from(sizes.positions)?)
+    let sizes = s.sizes().block(s.graph(), s.given(), x, d);
+    if !tuple.fits(u32::try_from(sizes.columns)?)
         || !tuple.is_below(u32::from(s.graph().prime()))
     {
         return Err(Fail::new("the numbers make no tuple"));
@@ -74,6 +78,7 @@ fn equations_of_the_square(rt: HostRuntime) -> Result<(), Fail> {
     let cert = square_parts(rt.alloc(), WITH_SECOND)?;
     let given = Given {
         degree: 1,
+        version: 1,
         parts: &cert.vertices,
     };
     let shaped = shape(rt.alloc(), &graph, &given)?;
@@ -107,6 +112,7 @@ fn sections_of_the_square(rt: HostRuntime) -> Result<(), Fail> {
     let cert = square_parts(rt.alloc(), WITH_SECOND)?;
     let given = Given {
         degree: 1,
+        version: 1,
         parts: &cert.vertices,
     };
     let shaped = shape(rt.alloc(), &graph, &given)?;

@@ -1,5 +1,5 @@
 //! Tests of what the calls on families are given.
-ghost use Rattle.std.specs.Prelude.{◌≡◌, ℕ, suc, ◌-◌, ◌<◌, ◌≤◌, nat_lt, IsTrue, All, length, slice_index};
+ghost use Rattle.std.specs.Prelude.{◌≡◌, ◌≢◌, ℕ, suc, ◌-◌, ◌<◌, ◌≤◌, nat_lt, IsTrue, All, length, slice_index};
 ghost use Rattle.bmp_graph.specs.Graph.{vertex_count, length_at};
 ghost use Rattle.bmp_linear.specs.SparseVectors.{FitsBelow};
 ghost use Rattle.bmp_sheaf.specs.States.{IsThere};
@@ -15,13 +15,25 @@ use bmp_levels::LevelBlocks;
 use bmp_linear::{DegreeBlock, Vectors};
 use bmp_sheaf::Sheaf;
 
+/// Whether a vertex is the top, or shorter.
+fn is_shorter(graph: &MomentGraph, x: u32, top: u32) -> bool
+    requires vertex { x < vertex_count graph.now }
+    requires top { top < vertex_count graph.now }
+    ensures { IsTrue result → x ≢ top → length_at graph.now x < length_at graph.now top }
+{
+    if x == top {
+        return true;
+    }
+    graph.length(x) < graph.length(top)
+}
+
 /// Whether the greatest vertex alone is the longest.
 fn is_longest(graph: &MomentGraph, top: u32) -> bool
     requires vertex { top < vertex_count graph.now }
     ensures { IsTrue result → IsTopVertex graph.now top }
 {
     for x in 0..graph.vertices() {
-        if x != top && graph.length(x) >= graph.length(top) {
+        if !is_shorter(graph, x, top) {
             return false;
         }
     }
@@ -38,7 +50,10 @@ pub fn has_top(sheaf: &Sheaf<PrimeField>) -> bool
         return false;
     }
     let stalk = sheaf.stalk(top);
-    stalk.generators() == 1 && stalk.degree_of(0) == 0
+    if stalk.generators() != 1 {
+        return false;
+    }
+    stalk.degree_of(0) == 0
 }
 
 /// Whether the places of each vector are below `n`.
@@ -63,7 +78,10 @@ fn block_fits(sheaf: &Sheaf<PrimeField>, d: u32, count: u64, x: u32, block: &Deg
     if size > 1000 || u64::from(block.cover.covers.len()) > count {
         return false;
     }
-    fit_below(&block.cover.covers, size as u32) && fit_below(&block.kernel.basis, size as u32)
+    if !fit_below(&block.cover.covers, size as u32) {
+        return false;
+    }
+    fit_below(&block.kernel.basis, size as u32)
 }
 
 /// Whether that is so at each vertex but the greatest, where `counts` has the numbers of members over the longer

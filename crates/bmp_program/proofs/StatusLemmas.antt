@@ -165,7 +165,7 @@ unfolding JobCase
 bad_job j (inl a) kept = a.1 kept
 bad_job j (inr a) kept = let p = a.0 in cc
 
-graph_case : (j : Job) (s : Status) (text : List ℕ) → GraphReport j s text → Decides KeepsAll graph_rules j s
+graph_case : (j : Job) (s : Status) (text : List ℕ) → GraphReport j s text → Decides (KeepsAll graph_rules) j s
 unfolding Decides
 graph_case j Done text is = inl (refl, is.0)
 graph_case j BadJob text is = let broken = job_case j BadJob is.0 is.1 is.2 in inr (broken, bad_job j broken)

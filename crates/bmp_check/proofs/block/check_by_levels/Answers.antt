@@ -2,6 +2,8 @@ use Rattle.std.proofs.Common.{◌≡◌, ◌↔◌, ◌∙◌, sym, ap, subst}
 use Rattle.std.proofs.lemmas.Result.{err_from_is_err_and, on_ok_weaker, MatchResult-weaker}
 use Rattle.bmp_cover.specs.CoverChecks.{CoverCompares}
 use Rattle.bmp_cover.specs.declared.fault.CoverFault.{CoverFault}
+use Rattle.bmp_levels.specs.Lists.{first_members}
+use Rattle.bmp_levels.specs.Runs.{list_of}
 use Rattle.bmp_check.specs.declared.method.Method.{Method}
 use Rattle.bmp_check.specs.BlockData.{block_of, matrix_at, tuples_at}
 use Rattle.bmp_check.specs.PartsSheaf.{parts_sheaf}
@@ -32,14 +34,14 @@ check_cover_at-requires-clause-count c =
     let is = read_block c.args.x c.args.d c.given.ensures c.part_of.ensures c.block_of-block.ensures in
     let members = c.members-members.ensures in
     let same = members_same c.requires.whole c.requires.method c.args.x c.args.d c.requires.block is c.args.family.now c.requires.family members.count members.family c.len.ensures in
-    subst (λ (m : Method). _ ≡ (tuples_at (graph_in c.args.s.now) m (cert_in c.args.s.now) c.args.x c.args.d).count) (sym c.requires.method) same.count
+    subst (λ (m : Method). c.members-members.result.count ≡ (tuples_at (graph_in c.args.s.now) m (cert_in c.args.s.now) c.args.x c.args.d).count) (sym c.requires.method) same.count
 
 pub check_cover_at-requires-clause-same : goal.check_cover_at-requires-clause-same
 check_cover_at-requires-clause-same c =
     let is = read_block c.args.x c.args.d c.given.ensures c.part_of.ensures c.block_of-block.ensures in
     let members = c.members-members.ensures in
     let same = members_same c.requires.whole c.requires.method c.args.x c.args.d c.requires.block is c.args.family.now c.requires.family members.count members.family c.len.ensures in
-    subst (λ (m : Method). (r : CoverFault) → CoverCompares (graph_in c.args.s.now) (parts_sheaf (graph_in c.args.s.now) (cert_in c.args.s.now)) c.args.x c.args.d _ (block_of (cert_in c.args.s.now) c.args.x c.args.d).cover r
+    subst (λ (m : Method). (r : CoverFault) → CoverCompares (graph_in c.args.s.now) (parts_sheaf (graph_in c.args.s.now) (cert_in c.args.s.now)) c.args.x c.args.d (first_members c.members-members.result.count (list_of c.members-members.result.family.now)) (block_of (cert_in c.args.s.now) c.args.x c.args.d).cover r
     ↔ CoverComparesAt (graph_in c.args.s.now) m (cert_in c.args.s.now) c.args.x c.args.d r) (sym c.requires.method)
     (same_comparisons c.requires.whole c.requires.method c.args.d c.requires.block.1 c.args.x same)
 

@@ -4,14 +4,14 @@ use Rattle.bmp_cover.specs.CoverChecks.{CoverCompares}
 use Rattle.bmp_cover.specs.CoverInputs.{HasTuples}
 use Rattle.bmp_cover.specs.declared.fault.CoverFault.{CoverFault}
 use Rattle.bmp_field.specs.declared.prime.PrimeField.{PrimeField}
-use Rattle.bmp_sheaf.specs.States.{SheafState}
-use Rattle.bmp_sections.specs.TupleLists.{TupleList}
+use Rattle.bmp_sheaf.specs.States.{SheafState, sheaf_of}
+use Rattle.bmp_sections.specs.TupleLists.{TupleList, tuples_over}
 use Rattle.bmp_check.specs.declared.method.Method.{Method}
 use Rattle.bmp_check.specs.declared.scratch.BlockScratch.{BlockScratch}
 use Rattle.bmp_check.specs.BlockData.{block_of, matrix_at, tuples_at}
 use Rattle.bmp_check.specs.PartsSheaf.{parts_sheaf}
 use Rattle.bmp_check.specs.Shaped.{IsRoomFor}
-use Rattle.bmp_check.specs.ShapedViews.{graph_in, cert_in}
+use Rattle.bmp_check.specs.ShapedViews.{graph_in, method_at, cert_in}
 use Rattle.bmp_check.specs.Verdicts.{CoverComparesAt}
 use Rattle.bmp_check.proofs.InputLemmas.{at_block, read_at, read_there, read_block, has_stalks, has_room, has_tuples, tuples_are, equations_are, equations_read, tuples_read}
 use Rattle.bmp_check.proofs.RefusalLemmas.{kernel_first, cover_second}
@@ -54,7 +54,7 @@ check_cover_at-requires-clause-tuples c =
     let at = read_at c.requires.method c.sheaf-sheaf.ensures (at_block c.requires.whole c.args.x c.args.d c.requires.block) in
     let is = read_block c.args.x c.args.d c.given.ensures c.part_of.ensures c.block_of-block.ensures in
     let tuples = c.over-tuples.ensures in
-    subst (λ (t : SheafState PrimeField). HasTuples t c.args.x c.args.d _) c.sheaf-sheaf.ensures
+    subst (λ (t : SheafState PrimeField). HasTuples t c.args.x c.args.d (tuples_over c.over-tuples.result.sheaf.now.graph (sheaf_of c.over-tuples.result.sheaf.now) c.over-tuples.result.vertex c.over-tuples.result.degree c.over-tuples.result.vectors.now)) c.sheaf-sheaf.ensures
     (has_tuples at is (tuples_read tuples.sheaf tuples.vertex tuples.degree tuples.vectors))
 
 pub check_cover_at-requires-clause-count : goal.check_cover_at-requires-clause-count
@@ -77,7 +77,7 @@ check_cover_at-requires-clause-same c =
     tuples_are at is (tuples_read tuples.sheaf tuples.vertex tuples.degree tuples.vectors)
     ∙ ap (λ (m : Method). tuples_at G m cert c.args.x c.args.d) (sym c.requires.method) in
     λ r.
-    subst (λ (l : TupleList). CoverCompares G (parts_sheaf G cert) c.args.x c.args.d l (block_of cert c.args.x c.args.d).cover r ↔ CoverComparesAt G _ cert c.args.x c.args.d r)
+    subst (λ (l : TupleList). CoverCompares G (parts_sheaf G cert) c.args.x c.args.d l (block_of cert c.args.x c.args.d).cover r ↔ CoverComparesAt G (method_at c.args.s.now) cert c.args.x c.args.d r)
     (sym same) ((λ h. h), (λ h. h))
 
 pub returns-clause-ok : goal.returns-clause-ok

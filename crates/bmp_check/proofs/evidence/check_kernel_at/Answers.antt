@@ -54,7 +54,7 @@ returns-in-Err-clause-first g c =
     let is = read_block c.args.x c.args.d c.given.ensures c.part_of.ensures c.block_of-block.ensures in
     let prime = field_prime c.field-field.ensures.field c.field-field.ensures.size c.sheaf.ensures (prime_is at) in
     let fault = c.in-Err.fault in
-    let method = c.method.ensures ∙ ap (λ (e : Given). method_of e.version) c.given-2.ensures in
+    let method = c.method.ensures ∙ ap (λ (e : Given). method_of e.version) c.given-in-Err.ensures in
     let counted = c.from.ensures ∙ c.len.ensures ∙ ap (λ (b : DegreeBlock). length b.kernel.basis) is in (
       fault,
       kernel_as at c.requires.matrix is prime (λ (p : ℕ) (m : Matrix) (e : KernelEvidence). IsFirstFailure (KernelCompares p m e) fault) c.in-Err.ensures.fault,

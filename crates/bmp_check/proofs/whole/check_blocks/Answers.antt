@@ -20,9 +20,11 @@ each-preserved c = record {
 
 pub returns-in_err-check_block-clause-first : goal.returns-in_err-check_block-clause-first
 returns-in_err-check_block-clause-first c =
+    let count =
+    counted_blocks c.shaped-shaped.ensures c.graph.ensures c.given.ensures c.vertices-vertices.ensures.count c.block_count-i-end.ensures.count in
     let p = err_from_is_err_and c.from_residual.result c.from_residual.ensures.1 in
     rw (p.1, p.2)
-    (first_block (shaped_in c.args.s.now) c.each.i (check_block-requires-clause-block c) c.each.invariant.passed
+    (first_block (shaped_in c.args.s.now) c.each.i (omega (arith, c.each-test.true, count)) c.each.invariant.passed
     c.in_err-check_block.field-0.0 c.in_err-check_block.ensures.first)
 
 pub returns-clause-ok : goal.returns-clause-ok

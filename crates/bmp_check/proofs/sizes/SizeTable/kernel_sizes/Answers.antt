@@ -10,7 +10,7 @@ returns-in-Spaces-clause-columns c =
 pub returns-in-Spaces-clause-rows : goal.returns-in-Spaces-clause-rows
 returns-in-Spaces-clause-rows c =
     spaces_rows c.requires.sizes c.requires.top c.args.x c.args.d c.requires.vertex c.requires.degree _ c.sum_above.ensures.graph (sym c.method.ensures ∙ c.in-Spaces.is)
-    c.sum_above-2.ensures.sum
+    c.sum_above-in-Spaces.ensures.sum
 
 pub returns-in-Levels-clause-columns : goal.returns-in-Levels-clause-columns
 returns-in-Levels-clause-columns c =
@@ -20,4 +20,4 @@ returns-in-Levels-clause-columns c =
 pub returns-in-Levels-clause-rows : goal.returns-in-Levels-clause-rows
 returns-in-Levels-clause-rows c =
     levels_rows c.requires.sizes c.requires.top c.args.x c.args.d c.requires.vertex c.requires.degree _ (sym c.method.ensures ∙ c.in-Levels.is)
-    c.at-2.ensures.number
+    c.at-in-Levels.ensures.number

@@ -49,4 +49,5 @@ returns c =
           (omega arith) c.each.invariant.stalks _ _ c.vertices-vertices.ensures.count refl;
       boundaries = full_sizes (λ x d. boundary_count G (parts_sheaf G (written_in c.args.c.now)) x d) c.vertices-vertices.result (c.args.c.now.degree + 1) c.each.k c.each.boundaries.items
           (omega arith) c.each.invariant.boundaries _ _ c.vertices-vertices.ensures.count refl;
+      tuples = c.in_ok-new.ensures;
     }
