@@ -6,7 +6,8 @@ ghost use Rattle.bmp_field.specs.PrimeFields.{size_of};
 use crate::growing::judge_growing;
 use crate::plain::{Plain, multiplies, rank};
 use bmp_elim::{
-    Solution, echelon, eliminate_rows, extend_basis, extend_columns, kernel, reduce, solve, solve_by,
+    Solution, echelon, eliminate_rows, extend_basis, extend_columns, kernel, reduce, solve,
+    solve_by,
 };
 use bmp_field::{Field, PrimeField};
 use bmp_linear::{
@@ -54,7 +55,11 @@ pub(crate) fn rows_of<A: RowSpace<PrimeField>>(
 }
 
 /// The rows as a plain matrix.
-pub(crate) fn plain_of<A: Rows<PrimeField>>(alloc: Global, f: &PrimeField, a: &A) -> Result<Plain, AllocError>
+pub(crate) fn plain_of<A: Rows<PrimeField>>(
+    alloc: Global,
+    f: &PrimeField,
+    a: &A,
+) -> Result<Plain, AllocError>
     requires { NumbersBelow (size_of f.now) (A.matrix a.now) }
 {
     let mut numbers = Vec::new(alloc);
@@ -74,7 +79,11 @@ pub(crate) fn plain_vector(alloc: Global, cols: u32, vector: &Vector) -> Result<
 }
 
 /// The vectors as the rows of a plain matrix.
-pub(crate) fn plain_vectors(alloc: Global, cols: u32, vectors: &Vectors) -> Result<Plain, AllocError> {
+pub(crate) fn plain_vectors(
+    alloc: Global,
+    cols: u32,
+    vectors: &Vectors,
+) -> Result<Plain, AllocError> {
     let mut plain = Plain::of(alloc, 0, cols, &[])?;
     for vector in vectors.as_slice() {
         plain.push_vector(vector)?;
@@ -353,11 +362,7 @@ fn judge_right_sides<A: RowSpace<PrimeField>>(
     for place in 0..whole.rows {
         right_sides.push_vector(&Vector::unit(alloc, place)?)?;
     }
-    let eliminated = eliminate_rows(
-        alloc,
-        f,
-        rows_of(alloc, f, like, &left.turned(alloc)?)?,
-    )?;
+    let eliminated = eliminate_rows(alloc, f, rows_of(alloc, f, like, &left.turned(alloc)?)?)?;
     let mut found = RIGHT;
     for i in 0..right_sides.rows {
         let right = right_sides.part(alloc, i, i.wrapping_add(1))?;

@@ -79,7 +79,8 @@ fn judge_rows<A: RowSpace<PrimeField>>(
             return Ok("whether a row is written");
         }
         let before = whole.part(alloc, 0, i)?;
-        let raised = rank(alloc, p, &whole.part(alloc, 0, i.wrapping_add(1))?)? != rank(alloc, p, &before)?;
+        let raised = rank(alloc, p, &whole.part(alloc, 0, i.wrapping_add(1))?)?
+            != rank(alloc, p, &before)?;
         if i < half && basis.chosen.as_slice().contains(&i) != raised {
             return Ok("whether a row is chosen");
         }
