@@ -17,3 +17,4 @@ pub mod KeptColumnLemmas
 pub mod KeptKernelLemmas
 pub mod GrowthLemmas
 pub mod GrownLemmas
+pub mod ChosenLemmas

@@ -1,11 +1,14 @@
 //! A basis of the span of rows that come one at a time.
 ghost use Rattle.std.specs.Prelude.{◌≡◌, ◌≢◌, ◌↔◌, ℕ, ◌+◌, ◌^◌, ◌<◌, ◌≤◌, [], ◌∷◌, ◌++◌, length, slice_index, IfOk, EachIndex, MatchOption};
-ghost use Rattle.bmp_math.specs.Matrices.{Matrix, NumbersBelow};
+ghost use Rattle.bmp_math.specs.Matrices.{Matrix, NumbersBelow, SameMatrix};
 ghost use Rattle.bmp_field.specs.Runs.{AreBelow};
 ghost use Rattle.bmp_linear.specs.SparseVectors.{FitsBelow, ValuesBelow, number_at};
 ghost use Rattle.bmp_linear.specs.RowChanges.{IsRowPushed, HoldsNumbers};
-ghost use Rattle.bmp_elim.specs.GrowingBases.{chosen_rows, IsRowCombination, HasLeading, IsGrown, GrewFromSome, IsKeptOrMore, WritesRow, IsRemainder, IsFirstPlace, IsMultiplied, IsPivotPushed, IsNegated};
+ghost use Rattle.bmp_elim.specs.GrowingBases.{chosen_rows, IsRowCombination, HasLeading, IsGrown, GrewFromSome, IsKeptOrMore, WritesRow, IsRemainder, IsFirstPlace, IsMultiplied, IsPivotPushed, IsNegated, narrowed};
+ghost use Rattle.bmp_elim.specs.Eliminations.{IsReducedOf};
 
+use crate::eliminate::eliminate;
+use crate::eliminated::Eliminated;
 use bmp_field::Field;
 use bmp_linear::{Places, RowSpace, Rows, Vector};
 use std::alloc::{AllocError, Global};
@@ -306,4 +309,59 @@ pub fn write_row<F: Field, A: Rows<F> + Drop>(
     let mut factors = vec![in alloc; 0; basis.trace.cols() as usize]?;
     let answer = written(alloc, f, basis, row, &mut numbers, &mut factors)?;
     Ok(answer)
+}
+
+/// Writes the numbers of a row.
+fn read_numbers<F: Field, A: Rows<F>>(f: &F, a: &A, i: u32, numbers: &mut [u8])
+    requires numbers { NumbersBelow (F.size f.now) (A.matrix a.now) }
+    requires row { i < (A.matrix a.now).rows }
+    requires room { length numbers.old ≡ (A.matrix a.now).cols }
+    ensures { (j : ℕ) → j < (A.matrix a.now).cols → slice_index numbers.new j ≡ (A.matrix a.now).entry i j }
+{
+    numbers.fill(0);
+    a.add_row_to(f, i, f.one(), numbers);
+}
+
+/// The first columns, as rows that are kept in the same way.
+fn first_columns<F: Field, A: RowSpace<F>>(
+    alloc: Global,
+    f: &F,
+    a: &A,
+    count: u32,
+) -> Result<A, AllocError>
+    requires numbers { NumbersBelow (F.size f.now) (A.matrix a.now) }
+    requires count { count ≤ (A.matrix a.now).cols }
+    ensures same { IfOk result (λ b. SameMatrix (A.matrix b) (narrowed count (A.matrix a.now))) }
+    ensures numbers { IfOk result (λ b. NumbersBelow (F.size f.now) (A.matrix b)) }
+{
+    let mut first = a.empty(count);
+    let mut numbers = vec![in alloc; 0; a.cols() as usize]?;
+    for i in 0..a.rows() {
+        read_numbers(f, a, i, &mut numbers);
+        first.push_numbers(f, &numbers[..count as usize])?;
+    }
+    Ok(first)
+}
+
+/// The elimination of the chosen rows, with a trace of as many rows and columns as were chosen. What it answers
+/// of these it answers of all rows that came, since they have the same kernel.
+pub fn eliminate_chosen<F: Field, A: RowSpace<F>>(
+    alloc: Global,
+    f: &F,
+    basis: GrowingBasis<A>,
+) -> Result<Eliminated<A>, AllocError>
+    requires { GrewFromSome (F.size f.now) (A.matrix basis.rows) (A.matrix basis.trace) basis.pivots
+        basis.chosen basis.count }
+    ensures { IfOk result (λ e. (old : Matrix)
+        → IsGrown (F.size f.now) old (A.matrix basis.rows) (A.matrix basis.trace) basis.pivots basis.chosen basis.count
+        → IsReducedOf (F.size f.now) (chosen_rows basis.chosen old) (A.matrix e.rows) (A.matrix e.trace) e.pivots) }
+{
+    let mut trace = first_columns(alloc, f, &basis.trace, basis.chosen.len())?;
+    let mut rows = basis.rows;
+    let pivots = eliminate(alloc, f, &mut rows, &mut trace)?;
+    Ok(Eliminated {
+        rows,
+        trace,
+        pivots,
+    })
 }

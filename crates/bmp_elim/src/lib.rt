@@ -24,7 +24,7 @@ mod unit_rows;
 pub use columns::{ColumnExtension, extend_columns};
 pub use eliminated::{Eliminated, eliminate_rows, evidence_by, solve_by};
 pub use extensions::{Extension, extend_basis};
-pub use growing::{GrowingBasis, empty_basis, grow_basis, write_row};
+pub use growing::{GrowingBasis, eliminate_chosen, empty_basis, grow_basis, write_row};
 pub use kernels::kernel;
 pub use reduction::{EchelonRows, Reduced, echelon, reduce};
 pub use systems::{Solution, solve};
