@@ -13,8 +13,10 @@ use Rattle.bmp_cert.specs.CertGrammar.{vertex_text, from_degree}
 abbrev pub entries_text : List Entry → List ℕ
 entries_text es = spaced_words (chain_text (λ (s : Unit {0}). entry_text 0) same tt es)
 
-pub entries_on : (out all : List ℕ) (es : List Entry) (i : ℕ) (d : Entry) → i < length es → out ++ entries_text (drop i es) ≡ all
-    → ((out ++ (32 ∷ decimal (get_or es i d).place)) ++ (32 ∷ decimal (get_or es i d).value)) ++ entries_text (drop (i + 1) es) ≡ all
+pub entries_on : (out all : List ℕ) (es : List Entry) (i : ℕ) (d : Entry) → i < length es →
+    out ++ entries_text (drop i es) ≡ all
+    → ((out ++ (32 ∷ decimal (get_or es i d).place)) ++ (32 ∷ decimal (get_or es i d).value)) ++ entries_text
+    (drop (i + 1) es) ≡ all
 entries_on out all es i d lt so_far =
     let e = get_or es i d in
     let rest = entries_text (drop (i + 1) es) in
@@ -23,14 +25,22 @@ entries_on out all es i d lt so_far =
     ∙ (append_assoc out (32 ∷ decimal e.place) ((32 ∷ decimal e.value) ++ rest)
     ∙ (ap (λ t. out ++ entries_text t) (sym back) ∙ so_far))
 
-pub entries_end : (out all : List ℕ) (es : List Entry) (i : ℕ) → length es ≤ i → out ++ entries_text (drop i es) ≡ all → out ≡ all
-entries_end out all es i le so_far = sym (append-nil out) ∙ (ap (λ t. out ++ entries_text t) (sym (drop_all i es le)) ∙ so_far)
+pub entries_end : (out all : List ℕ) (es : List Entry) (i : ℕ) → length es ≤ i → out ++ entries_text (drop i es) ≡ all →
+    out ≡ all
+entries_end out all es i le so_far =
+    sym (append-nil out) ∙ (ap (λ t. out ++ entries_text t) (sym (drop_all i es le)) ∙ so_far)
 
-pub vector_printed : (out word : List ℕ) (es : List Entry) → (((out ++ word) ++ (32 ∷ decimal (length es))) ++ entries_text es) ++ (10 ∷ []) ≡ out ++ line_text word (vector_text es)
+pub vector_printed : (out word : List ℕ) (es : List Entry) →
+    (((out ++ word) ++ (32 ∷ decimal (length es))) ++ entries_text es) ++ (10 ∷ [])
+    ≡ out ++ line_text word (vector_text es)
 vector_printed out word es = rw (stateless (entry_text 0) behind_place 0 es) (simp append_assoc)
 
-pub pivots_printed : (out : List ℕ) (ps : List ℕ) → ((out ++ codes "pivots") ++ spaced_words (chain_text (λ (s : Unit {0}) n. decimal n ∷ []) same tt ps)) ++ (10 ∷ []) ≡ out ++ line_text (codes "pivots") (rising_text ps)
+pub pivots_printed : (out : List ℕ) (ps : List ℕ) →
+    ((out ++ codes "pivots") ++ spaced_words (chain_text (λ (s : Unit {0}) n. decimal n ∷ []) same tt ps)) ++ (10 ∷ [])
+    ≡ out ++ line_text (codes "pivots") (rising_text ps)
 pivots_printed out ps = rw (stateless (λ n. decimal n ∷ []) (λ p low. p + 1) 0 ps) (simp append_assoc)
 
-pub degrees_printed : (out : List ℕ) (n : ℕ) (es : List ℕ) → ((((out ++ codes "vertex") ++ (32 ∷ decimal n)) ++ (32 ∷ decimal (length es))) ++ spaced_words (chain_text (λ (s : Unit {0}) n. decimal n ∷ []) same tt es)) ++ (10 ∷ []) ≡ out ++ vertex_text n es
+pub degrees_printed : (out : List ℕ) (n : ℕ) (es : List ℕ) →
+    ((((out ++ codes "vertex") ++ (32 ∷ decimal n)) ++ (32 ∷ decimal (length es))) ++ spaced_words
+    (chain_text (λ (s : Unit {0}) n. decimal n ∷ []) same tt es)) ++ (10 ∷ []) ≡ out ++ vertex_text n es
 degrees_printed out n es = rw (stateless (λ n. decimal n ∷ []) from_degree 0 es) (simp append_assoc)

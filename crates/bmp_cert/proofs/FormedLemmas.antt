@@ -10,17 +10,20 @@ module _ {A S : Type 0} (whole : Type 0) (fits : S → A → Type 0) (next : A �
   front : (i : ℕ) (x d : A) → i < length xs → x ≡ get_or xs i d → drop i xs ≡ x ∷ drop (i + 1) xs
   front i x d l is = rw add-one (drop-cons xs i d l) ∙ ap (λ (y : A). y ∷ drop (i + 1) xs) (sym is)
 
-  parted : (i : ℕ) (s : S) (x d : A) → i < length xs → x ≡ get_or xs i d → Decides whole fits next xs i s → whole ↔ (fits s x × ChainFits fits next (next x s) (drop (i + 1) xs))
+  parted : (i : ℕ) (s : S) (x d : A) → i < length xs → x ≡ get_or xs i d → Decides whole fits next xs i s → whole ↔
+      (fits s x × ChainFits fits next (next x s) (drop (i + 1) xs))
   parted i s x d l is so_far = subst (λ (ys : List A). whole ↔ ChainFits fits next s ys) (front i x d l is) so_far
 
   -- an item fits
-  pub fits_on : (i : ℕ) (s : S) (x d : A) → i < length xs → x ≡ get_or xs i d → fits s x → Decides whole fits next xs i s → Decides whole fits next xs (i + 1) (next x s)
+  pub fits_on : (i : ℕ) (s : S) (x d : A) → i < length xs → x ≡ get_or xs i d → fits s x →
+      Decides whole fits next xs i s → Decides whole fits next xs (i + 1) (next x s)
   fits_on i s x d l is here so_far =
       let both = parted i s x d l is so_far in
       (λ w. (both.0 w).1, λ rest. both.1 (here, rest))
 
   -- an item that doesn't
-  pub fits_stop : (i : ℕ) (s : S) (x d : A) → i < length xs → x ≡ get_or xs i d → (fits s x → ⊥) → Decides whole fits next xs i s → IsTrue false ↔ whole
+  pub fits_stop : (i : ℕ) (s : S) (x d : A) → i < length xs → x ≡ get_or xs i d → (fits s x → ⊥) →
+      Decides whole fits next xs i s → IsTrue false ↔ whole
   fits_stop i s x d l is never so_far =
       let both = parted i s x d l is so_far in
       (λ (h : false ≡ true). absurd cc, λ w. absurd (never (both.0 w).0))

@@ -16,10 +16,12 @@ use Rattle.bmp_cert.proofs.EndLemmas.{is_other, ReadsOthers, ReadsToEnd, line_ot
 lattice_others : (stated : Bool) → ReadsOthers (lattice_if stated)
 unfolding lattice_line
 lattice_others stated = cond_others stated lattice_line (give Plain)
-    (after_others _ _ (line_others (codes "lattice") (natural 0 1) refl) (λ n. give_others (lattice_of n))) (give_others Plain)
+    (after_others _ _ (line_others (codes "lattice") (natural 0 1) refl) (λ n. give_others (lattice_of n)))
+    (give_others Plain)
 
 rows_others : (rank : ℕ) → ReadsOthers (rows rank)
-rows_others rank = after_others _ _ (chain_others _ same (λ s. line_others (codes "row") (entries rank) refl) rank tt) (λ rs. give_others _)
+rows_others rank = after_others _ _ (chain_others _ same (λ s. line_others (codes "row") (entries rank) refl) rank tt)
+    (λ rs. give_others _)
 
 job_lines_others : (l : Lattice) → ReadsOthers (job_lines l)
 unfolding job_lines
@@ -41,7 +43,8 @@ job_to_end =
 vectors_others : (word : List ℕ) (most n : ℕ) → is_other word ≡ true → ReadsOthers (vectors word most n)
 vectors_others word most n other = chain_others _ same (λ s. line_others word (vector most) other) n tt
 
-kernel_others : (word : List ℕ) (most : ℕ) (pivots : List ℕ) (n : ℕ) → is_other word ≡ true → ReadsOthers (kernel_lines word most pivots n)
+kernel_others : (word : List ℕ) (most : ℕ) (pivots : List ℕ) (n : ℕ) → is_other word ≡ true →
+    ReadsOthers (kernel_lines word most pivots n)
 unfolding kernel_lines
 kernel_others word most pivots n other =
     after_others _ _ (vectors_others word most n other) (λ basis.
@@ -74,7 +77,8 @@ part_others version last most degree x = cond_others (x == last) _ _
     (after_others _ _ (line_others (codes "vertex") (vertex_words x degree) refl) (λ es.
     after_others _ _ (line_others (codes "edges") (natural 0 MOST) refl) (λ m.
     after_others _ _ (vectors_others (codes "lift") most (m * length es) refl) (λ lifts.
-    after_others _ _ (chain_others _ step_up (block_others version most (λ d. count_by (λ e. e == d) es)) (degree + 1) 0) (λ blocks.
+    after_others _ _ (chain_others _ step_up (block_others version most (λ d. count_by (λ e. e == d) es)) (degree + 1)
+    0) (λ blocks.
     give_others _)))))
 
 part_lines_others : (version most degree : ℕ) → ReadsOthers (part_lines version most degree)

@@ -16,7 +16,8 @@ use Rattle.bmp_cert.proofs.RuleLemmas.{keeps_both, fails_behind}
 
 pub one_graph : (j : Job) (g h : Graph) → IsJobGraph j g → IsJobGraph j h → g ≡ h
 one_graph j g h of_g of_h =
-    graph_of_word of_g.roots of_h.roots (of_g.system.matrix ∙ sym of_h.system.matrix) j.word of_g.vertices of_h.vertices j.prime (form_of_job j) g h
+    graph_of_word of_g.roots of_h.roots (of_g.system.matrix ∙ sym of_h.system.matrix) j.word of_g.vertices of_h.vertices
+    j.prime (form_of_job j) g h
     of_g.interval of_h.interval of_g.bruhat of_h.bruhat of_g.graph of_h.graph
 
 pair_fails : (g : Graph) (x d e : ℕ) → IsFirstParallelPair g x d e → HasGkm g → ⊥
@@ -25,10 +26,12 @@ pair_fails g x d e first holds =
     holds x d e p.first p.second (λ same. absurd (omega (arith, p.rising, same))) p.parallel
 
 -- the first parallel pair of the graph is the first fault of a job that keeps the other rules
-pub gkm_fault : (j : Job) (g : Graph) (p : GkmPair) → KeepsAll graph_rules j → IsJobGraph j g → IsFirstParallelPair g p.vertex p.first p.second → IsFirstFault j (Gkm p)
+pub gkm_fault : (j : Job) (g : Graph) (p : GkmPair) → KeepsAll graph_rules j → IsJobGraph j g →
+    IsFirstParallelPair g p.vertex p.first p.second → IsFirstFault j (Gkm p)
 gkm_fault j g p kept of_g first = record {
   fails = fails_behind j graph_rules (HasGkmGraph ∷ []) 0 kept
-      (λ (h, of_h, holds). pair_fails g p.vertex p.first p.second first (subst (λ (k : Graph). HasGkm k) (one_graph j h g of_h of_g) holds));
+      (λ (h, of_h, holds). pair_fails g p.vertex p.first p.second first
+      (subst (λ (k : Graph). HasGkm k) (one_graph j h g of_h of_g) holds));
   values = (g, of_g, first);
 }
 
@@ -44,6 +47,7 @@ prepared_graph j interval g p = record {
   graph = p.graph;
 }
 
-pub kept_rules : (j : Job) (interval : Interval) (g : Graph) → ∥ KeepsAll graph_rules j ∥₁ → ∥ IsPrepared j interval g ∥₁ → HasGkm g → ∥ KeepsAll rules j ∥₁
+pub kept_rules : (j : Job) (interval : Interval) (g : Graph) → ∥ KeepsAll graph_rules j ∥₁ →
+    ∥ IsPrepared j interval g ∥₁ → HasGkm g → ∥ KeepsAll rules j ∥₁
 kept_rules j interval g kept prepared gkm = ∥∥₁_elim kept ∥∥₁_prop (λ k. ∥∥₁_elim prepared ∥∥₁_prop (λ p.
     ∣ keeps_both j graph_rules (HasGkmGraph ∷ []) k ((g, prepared_graph j interval g p, gkm), tt) ∣₁))

@@ -13,11 +13,14 @@ use Rattle.bmp_cert.specs.declared.lattice.Lattice.{Lattice}
 use Rattle.bmp_cert.specs.declared.lattice.Lattice.TheVariants.{Plain, Root, Weight}
 
 -- the same reader, with other words for what fits, and another printed form, which may differ where nothing fits
-pub pair_where : {A : Type 0} (step : Cursor ℕ → Result (A × Cursor ℕ) TextFault) (text new : A → List ℕ) (fits holds : A → Type 0) → ((x : A) → fits x → text x ≡ new x)
-    → ((x : A) → fits x → holds x) → ((x : A) → holds x → fits x) → Pair IsAny step text fits → Pair IsAny step new holds
+pub pair_where : {A : Type 0} (step : Cursor ℕ → Result (A × Cursor ℕ) TextFault) (text new : A → List ℕ)
+    (fits holds : A → Type 0) → ((x : A) → fits x → text x ≡ new x)
+    → ((x : A) → fits x → holds x) → ((x : A) → holds x → fits x) → Pair IsAny step text fits →
+    Pair IsAny step new holds
 pair_where step text new fits holds same to from one = record {
   takes = λ c x d e. let p = one.takes c x d e in (to x p.0, p.1 ∙ ap (λ (t : List ℕ). t ++ d.rest) (same x p.0));
-  again = λ x n r h. let p = one.again x n r (from x h) in (p.0, ap (λ (t : List ℕ). step (record { place = n; rest = t ++ r })) (sym (same x (from x h))) ∙ p.1);
+  again = λ x n r h. let p = one.again x n r (from x h) in
+      (p.0, ap (λ (t : List ℕ). step (record { place = n; rest = t ++ r })) (sym (same x (from x h))) ∙ p.1);
   plain = λ x h. subst (AllByRecursion IsAny) (same x (from x h)) (one.plain x (from x h));
 }
 
@@ -58,7 +61,8 @@ unfolding lattice_line
 lattice_pair true = pair_where lattice_line _ lattice_text _ (λ l. has_line l ≡ true)
     (λ l h. printed l (ap has_line h.1 ∙ stated_of (lattice_number l)))
     (λ l h. ap has_line h.1 ∙ stated_of (lattice_number l)) (λ l h. (in_range l, of_number l h))
-    (after_pair IsAny lattice_number (single_pair (codes "lattice") 0 1 (search rules) (omega arith)) (λ n h. give_pair IsAny (lattice_of n))
+    (after_pair IsAny lattice_number (single_pair (codes "lattice") 0 1 (search rules) (omega arith))
+    (λ n h. give_pair IsAny (lattice_of n))
     (λ n l f h. ap lattice_number h ∙ number_of n f))
 lattice_pair false = pair_where (give Plain) (λ l. []) lattice_text (λ l. l ≡ Plain) (λ l. has_line l ≡ false)
     (λ l h. sym (ap lattice_text h)) (λ l h. ap has_line h) is_plain (give_pair IsAny Plain)

@@ -22,7 +22,8 @@ module _ (j : Job) where
   keeps_back (rule ∷ others) back k = keeps_back others back k.1
 
   -- a rule that fails behind those that are kept
-  pub fails_behind : (front back : List Rule) (n : ℕ) → KeepsAll front j → FailsAt back n j → FailsAt (front ++ back) (behind front n) j
+  pub fails_behind : (front back : List Rule) (n : ℕ) → KeepsAll front j → FailsAt back n j →
+      FailsAt (front ++ back) (behind front n) j
   fails_behind [] back n kept fails = fails
   fails_behind (rule ∷ others) back n kept fails = (kept.0, fails_behind others back n kept.1 fails)
 

@@ -28,14 +28,18 @@ use Rattle.bmp_cert.specs.declared.job_fault.JobFault.TheVariants.{Reduced, TooM
 
 -- ---- root systems
 
-positive_roots : (j : Job) (roots : Roots) → IsSystemOf j roots → ArePositiveRoots (matrix_of_job j) (positive_roots_of roots)
-positive_roots j roots s = subst (λ (m : CartanMatrix). ArePositiveRoots m (positive_roots_of roots)) s.matrix (has_positive_roots roots)
+positive_roots : (j : Job) (roots : Roots) → IsSystemOf j roots →
+    ArePositiveRoots (matrix_of_job j) (positive_roots_of roots)
+positive_roots j roots s =
+    subst (λ (m : CartanMatrix). ArePositiveRoots m (positive_roots_of roots)) s.matrix (has_positive_roots roots)
 
 -- the root systems of a job measure the same length of a word
-pub one_length : (j : Job) (a b : Roots) → IsSystemOf j a → IsSystemOf j b → (u : List ℕ) → length_of (matrix_of a) (positive_roots_of a) u ≡ length_of (matrix_of b) (positive_roots_of b) u
+pub one_length : (j : Job) (a b : Roots) → IsSystemOf j a → IsSystemOf j b → (u : List ℕ) →
+    length_of (matrix_of a) (positive_roots_of a) u ≡ length_of (matrix_of b) (positive_roots_of b) u
 one_length j a b of_a of_b u =
     ap (λ (m : CartanMatrix). length_of m (positive_roots_of a) u) of_a.matrix
-    ∙ (one_word_length (matrix_of_job j) (positive_roots_of a) (positive_roots_of b) (positive_roots j a of_a) (positive_roots j b of_b) u
+    ∙ (one_word_length (matrix_of_job j) (positive_roots_of a) (positive_roots_of b) (positive_roots j a of_a)
+    (positive_roots j b of_b) u
     ∙ sym (ap (λ (m : CartanMatrix). length_of m (positive_roots_of b) u) of_b.matrix))
 
 pub reduced_word : (j : Job) (roots : Roots) (word : List ℕ) → word ≡ j.word → IsSystemOf j roots
@@ -48,33 +52,49 @@ reduced_word j roots word is system reduced = record {
 }
 
 pub not_reduced : (j : Job) (n : ℕ) → HasLength j n → n ≢ length j.word → HasReducedWord j → ⊥
-not_reduced j n short differ long = differ (short.length_is ∙ (one_length j short.roots long.roots short.system long.system (word_of j.word) ∙ sym long.length_is))
+not_reduced j n short differ long =
+    differ (short.length_is
+    ∙ (one_length j short.roots long.roots short.system long.system (word_of j.word) ∙ sym long.length_is))
 
 -- ---- intervals
 
-has_vertices : (j : Job) (vertices : List Elem) → IsJobInterval j vertices → HasVertices (matrix_of_job j) (word_of j.word) vertices
-has_vertices j vertices i = subst (λ (m : CartanMatrix). HasVertices m (word_of j.word) vertices) i.system.matrix i.interval.interval.vertices
+has_vertices : (j : Job) (vertices : List Elem) → IsJobInterval j vertices →
+    HasVertices (matrix_of_job j) (word_of j.word) vertices
+has_vertices j vertices i =
+    subst (λ (m : CartanMatrix). HasVertices m (word_of j.word) vertices) i.system.matrix i.interval.interval.vertices
 
 is_word : (j : Job) → HasLetters j → IsWord (matrix_of_job j) (word_of j.word)
 is_word j letters = letters_word j.rank j.word letters
 
-pub interval_of_word : (j : Job) (roots : Roots) (word : List ℕ) (vertices : List Elem) → word ≡ j.word → IsSystemOf j roots → IsIntervalOf roots word vertices → HasInterval j
-interval_of_word j roots word vertices is system interval =
-    (vertices, record { roots = roots; system = system; interval = subst (λ (w : List ℕ). IsIntervalOf roots w vertices) is interval })
+pub interval_of_word : (j : Job) (roots : Roots) (word : List ℕ) (vertices : List Elem) → word ≡ j.word →
+    IsSystemOf j roots → IsIntervalOf roots word vertices → HasInterval j
+interval_of_word j roots word vertices is system interval = (
+  vertices,
+  record {
+    roots = roots;
+    system = system;
+    interval = subst (λ (w : List ℕ). IsIntervalOf roots w vertices) is interval;
+  },
+)
 
 pub one_interval : (j : Job) (a b : List Elem) → IsJobInterval j a → IsJobInterval j b → a ≡ b
-one_interval j a b of_a of_b = one_interval_of of_a.roots of_b.roots (of_a.system.matrix ∙ sym of_b.system.matrix) j.word a b of_a.interval of_b.interval
+one_interval j a b of_a of_b =
+    one_interval_of of_a.roots of_b.roots (of_a.system.matrix ∙ sym of_b.system.matrix) j.word a b of_a.interval
+    of_b.interval
 
-pub no_interval : (j : Job) → HasLetters j → HasMoreVertices (matrix_of_job j) (word_of j.word) max_vertices → HasInterval j → ⊥
+pub no_interval : (j : Job) → HasLetters j → HasMoreVertices (matrix_of_job j) (word_of j.word) max_vertices →
+    HasInterval j → ⊥
 no_interval j letters more (vertices, i) =
     let up : length more.some ≤ length vertices =
     length_within more.some vertices more.once
-    (λ e h. vertex_member (matrix_of_job j) (word_of j.word) (is_word j letters) vertices (has_vertices j vertices i) e (more.each e h)) in
+    (λ e h. vertex_member (matrix_of_job j) (word_of j.word) (is_word j letters) vertices (has_vertices j vertices i) e
+    (more.each e h)) in
     omega (arith, up, more.more, i.interval.interval.few)
 
 one_size : (j : Job) (a b : ℕ) → HasSize j a → HasSize j b → a ≡ b
 one_size j a b of_a of_b =
-    of_a.size ∙ (ap (λ (vertices : List Elem). length vertices * count j.rank j.degree) (one_interval j of_a.vertices of_b.vertices of_a.interval of_b.interval) ∙ sym of_b.size)
+    of_a.size ∙ (ap (λ (vertices : List Elem). length vertices * count j.rank j.degree)
+    (one_interval j of_a.vertices of_b.vertices of_a.interval of_b.interval) ∙ sym of_b.size)
 
 pub not_small : (j : Job) (n : ℕ) → HasSize j n → max_size < n → IsSmall j → ⊥
 not_small j n size large (other, other_size, small) =
@@ -82,18 +102,21 @@ not_small j n size large (other, other_size, small) =
     omega (arith, same, large, small)
 
 -- the number of vertices times that of the monomials
-pub size_is : (j : Job) (roots : Roots) (vertices : List Elem) (n degree monomials : ℕ) → IsSystemOf j roots → IsIntervalOf roots j.word vertices
+pub size_is : (j : Job) (roots : Roots) (vertices : List Elem) (n degree monomials : ℕ) → IsSystemOf j roots →
+    IsIntervalOf roots j.word vertices
     → n ≡ length vertices → degree ≡ j.degree → monomials ≡ count j.rank degree → HasSize j (n * monomials)
 size_is j roots vertices n degree monomials system interval number same counted = record {
   vertices = vertices;
   interval = record { roots = roots; system = system; interval = interval };
-  size = ap (λ (v : ℕ). v * monomials) number ∙ ap (λ (k : ℕ). length vertices * k) (counted ∙ ap (λ (d : ℕ). count j.rank d) same);
+  size = ap (λ (v : ℕ). v * monomials) number
+      ∙ ap (λ (k : ℕ). length vertices * k) (counted ∙ ap (λ (d : ℕ). count j.rank d) same);
 }
 
 -- ---- the faults of a word
 
 -- a word that is longer than its product
-pub reduced_fault : (j : Job) (roots : Roots) (word : List ℕ) (n : ℕ) → word ≡ j.word → KeepsAll letter_rules j → IsSystemOf j roots
+pub reduced_fault : (j : Job) (roots : Roots) (word : List ℕ) (n : ℕ) → word ≡ j.word → KeepsAll letter_rules j →
+    IsSystemOf j roots
     → IsFault (matrix_of roots) (positive_roots_of roots) (word_of word) (NotReduced n) → IsFirstFault j (Reduced n)
 reduced_fault j roots word n is before system fault =
     let measured : HasLength j n = record {
@@ -103,12 +126,15 @@ reduced_fault j roots word n is before system fault =
     } in
     record {
       fails = fails_behind j letter_rules (HasReducedWord ∷ []) 0 before
-          (not_reduced j n measured (λ e. fault.1 (e ∙ (sym (ap (λ (w : List ℕ). length w) is) ∙ sym (length-map word (λ letter. letter - 1))))));
+          (not_reduced j n measured
+          (λ e. fault.1 (e ∙ (sym (ap (λ (w : List ℕ). length w) is)
+          ∙ sym (length-map word (λ letter. letter - 1))))));
       values = measured;
     }
 
 -- too many vertices
-pub vertices_fault : (j : Job) (roots : Roots) (word : List ℕ) (n : ℕ) → word ≡ j.word → KeepsAll letter_rules j → IsSystemOf j roots
+pub vertices_fault : (j : Job) (roots : Roots) (word : List ℕ) (n : ℕ) → word ≡ j.word → KeepsAll letter_rules j →
+    IsSystemOf j roots
     → IsFault (matrix_of roots) (positive_roots_of roots) (word_of word) (Many n) → IsFirstFault j (TooMany n)
 vertices_fault j roots word n is before system fault =
     let more : HasMoreVertices (matrix_of_job j) (word_of j.word) max_vertices =

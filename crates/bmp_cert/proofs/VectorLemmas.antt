@@ -17,15 +17,24 @@ use Rattle.bmp_linear.specs.SparseVectors.{FitsBelow}
 pub fits_higher : (v : List Entry) (n m : ℕ) → FitsBelow v n → n ≤ m → FitsBelow v m
 fits_higher v n m h le = All-weaker (λ (e : Entry). e.place < n) (λ e. e.place < m) (λ e lt. omega arith) v h
 
-pub fits_behind : (v : List Entry) (next : ℕ) (e : Entry) → FitsBelow v next → next ≤ e.place → FitsBelow (v ++ e ∷ []) (e.place + 1)
-fits_behind v next e h le = All-push (λ (d : Entry). d.place < e.place + 1) v e (fits_higher v next (e.place + 1) h (omega arith)) (omega arith)
+pub fits_behind : (v : List Entry) (next : ℕ) (e : Entry) → FitsBelow v next → next ≤ e.place →
+    FitsBelow (v ++ e ∷ []) (e.place + 1)
+fits_behind v next e h le =
+    All-push (λ (d : Entry). d.place < e.place + 1) v e (fits_higher v next (e.place + 1) h (omega arith)) (omega arith)
 
 -- ---- a line of a keyword and a vector, whose bytes are known
 
-module _ (word : List ℕ) (most : ℕ) (c : Cursor ℕ) (v : List Entry) (rest : List ℕ) (plain : list_all is_ascii_graphic word ≡ true)
-    (small : most < 2 ^ 63) (fits : IsVector most v) (is : c.rest ≡ (word ++ spaced_words (vector_text v)) ++ 10 ∷ rest) where
-  pub vector_found : line word (vector most) c ≡ Ok (v, record { place = place_behind c.place (length c.rest - length rest - 1); rest = rest })
-  vector_found = line_found word (vector most) vector_text (IsVector most) (plain_word word plain) (vector_pair most small) v c rest fits is
+module _ (word : List ℕ) (most : ℕ) (c : Cursor ℕ) (v : List Entry) (rest : List ℕ)
+    (plain : list_all is_ascii_graphic word ≡ true)
+    (small : most < 2 ^ 63) (fits : IsVector most v) (is : c.rest ≡ (word ++ spaced_words (vector_text v)) ++ 10 ∷ rest)
+  where
+    pub vector_found :
+        line word (vector most) c
+        ≡ Ok (v, record { place = place_behind c.place (length c.rest - length rest - 1); rest = rest })
+    vector_found = line_found word (vector most) vector_text (IsVector most) (plain_word word plain)
+        (vector_pair most small) v c rest fits is
 
-  pub vector_cut : (cut 10 c.rest).1 ≡ Some rest
-  vector_cut = found_cut word (vector most) vector_text (IsVector most) (plain_word word plain) (vector_pair most small) v c rest fits is
+    pub vector_cut : (cut 10 c.rest).1 ≡ Some rest
+    vector_cut = found_cut word (vector most) vector_text (IsVector most) (plain_word word plain)
+        (vector_pair most small)
+        v c rest fits is

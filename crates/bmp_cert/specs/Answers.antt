@@ -21,6 +21,7 @@ abbrev pub Answers : {X Y : Type 0} → (X → Y) → Result X CertError → Res
 Answers view (Ok x) step = step ≡ Ok (view x)
 Answers view (Err e) step = Faults e step
 
-abbrev pub Pushes : {A C : Type 0} → List A → List A → C → Result (Unit {0}) CertError → Result (A × C) TextFault → Type 0
+abbrev pub Pushes : {A C : Type 0} → List A → List A → C → Result (Unit {0}) CertError → Result (A × C) TextFault →
+    Type 0
 Pushes before after cursor (Ok x) step = put_onto list_with before step ≡ Ok (after, cursor)
 Pushes before after cursor (Err e) step = Faults e step

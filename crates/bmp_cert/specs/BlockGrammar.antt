@@ -3,8 +3,8 @@
 --   kernel_lines word most pivots n
 --                                 n vectors of the kernel, and a row for each pivot
 --   cover_lines most n t          n covers, and for each of t generators a source and a dual form
---   space_block, level_block      what follows the pivots, with the evidence by whole section spaces, and with that by levels: the
---                                 same lines in two orders
+--   space_block, level_block      what follows the pivots, with the evidence by whole section spaces, and with that by
+--                                 levels: the same lines in two orders
 --   block version most at d       the block of degree d, its values from 1 to most; at d generators have degree d
 --   block_text version d b        its lines
 --   IsBlock version most at d b   it has lines

@@ -1,5 +1,5 @@
--- The text of a certificate: what is read, how it is printed, and what has a text. The version decides on the line of the
--- lattice and on the lines of the blocks.
+-- The text of a certificate: what is read, how it is printed, and what has a text. The version decides on the line of
+-- the lattice and on the lines of the blocks.
 --   part_at version last most degree x    the part of the vertex x, whose lines depend on whether it is the last one
 --   parts version most degree n      the parts of n vertices, from the vertex n - 1 down to 0
 --   part_lines version most degree   the line `vertices n`, and the parts; their values are from 1 to most

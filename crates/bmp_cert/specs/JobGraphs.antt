@@ -4,7 +4,8 @@
 --   form_of_job j              which linear form is the label of a root pair, before it is taken modulo the prime
 --   IsSystemOf j roots         roots is the root system of the matrix
 --   IsJobInterval j vertices   the vertices are those below the word, which is reduced, in the order of their numbers
---   IsJobGraph j g             g is the Bruhat moment graph of the vertices, with these forms modulo the prime as labels
+--   IsJobGraph j g             g is the Bruhat moment graph of the vertices, with these forms modulo the prime as
+--                              labels
 --   IsPrepared j interval g    the same of the interval and the graph that are kept with a job
 use Rattle.std.specs.Prelude.{◌≡◌, Bool, true, false, List}
 use Rattle.bmp_roots.specs.RootPairs.{CartanMatrix, Vector, RootPair}

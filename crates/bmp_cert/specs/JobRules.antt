@@ -10,8 +10,8 @@
 --   HasLabels j            no edge has the label zero
 --   HasGkmGraph j          no two edges at one vertex of its moment graph have parallel labels
 --   system_rules, letter_rules, interval_rules, size_rules, graph_rules, rules
---                          lists of rules, each begun with the one before: what the root system needs, the word, the interval, the
---                          sizes, and the graph; and all rules
+--                          lists of rules, each begun with the one before: what the root system needs, the word, the
+--                          interval, the sizes, and the graph; and all rules
 --   KeepsAll rules j       each rule of the list holds
 --   FailsAt rules n j      the rule number n of the list, from 0, fails, and those before it hold
 --   place_of f             the number of the rule that the fault f speaks of

@@ -110,12 +110,7 @@ fn push_level_counts(out: &mut Vec<u8>, degree: u64, n: LineCounts) -> Result<()
 }
 
 // The first line of a block, as the version has it.
-fn push_counts(
-    out: &mut Vec<u8>,
-    version: u8,
-    degree: u64,
-    n: LineCounts,
-) -> Result<(), AllocError>
+fn push_counts(out: &mut Vec<u8>, version: u8, degree: u64, n: LineCounts) -> Result<(), AllocError>
     ensures { OnOk result (out.new.items ≡ out.old.items
         ++ line_text (codes "block") (line_counts_text version degree n)) }
 {
@@ -200,12 +195,7 @@ fn push_vertex(out: &mut Vec<u8>, number: u64, degrees: &Degrees) -> Result<(), 
 }
 
 // A vertex that isn't the greatest.
-fn push_part(
-    out: &mut Vec<u8>,
-    version: u8,
-    number: u64,
-    v: &VertexPart,
-) -> Result<(), AllocError>
+fn push_part(out: &mut Vec<u8>, version: u8, number: u64, v: &VertexPart) -> Result<(), AllocError>
     ensures { OnOk result (out.new.items ≡ out.old.items ++ part_text version number v.now) }
 {
     push_vertex(out, number, &v.degrees)?;
@@ -261,8 +251,8 @@ fn push_part_lines(out: &mut Vec<u8>, version: u8, parts: &Parts) -> Result<(), 
     Ok(())
 }
 
-/// Appends the line `vertices n` and the parts of the vertices, as the version has them. Where memory is wanting, nothing
-/// is appended: the lines are made apart first.
+/// Appends the line `vertices n` and the parts of the vertices, as the version has them. Where memory is wanting,
+/// nothing is appended: the lines are made apart first.
 pub fn push_parts(out: &mut Vec<u8>, version: u8, parts: &Parts) -> Result<(), AllocError>
     requires version { IsVersion version }
     requires formed { (most : ℕ) × (degree : ℕ) × HavePartLines version most degree parts.now }

@@ -152,8 +152,9 @@ pub(crate) fn job_lines_of(
     })
 }
 
-/// Reads the job lines, or gives the first fault in reading order. The lattice isn't among them: the job is a plain one.
-/// After an error `lines` stands where it stood, or behind a later line: at the start of a line, or at the end of the text.
+/// Reads the job lines, or gives the first fault in reading order. The lattice isn't among them: the job is a plain
+/// one. After an error `lines` stands where it stood, or behind a later line: at the start of a line, or at the end of
+/// the text.
 pub fn read_job_lines(alloc: Global, lines: &mut Lines) -> Result<Job, CertError>
     ensures gives { Gives (λ j. j) lines.new result (job_lines Plain lines.old) }
     ensures later { IsLaterLine lines.old lines.new }

@@ -16,8 +16,8 @@ pub fn one_text()
     ensures { (a b : Cert) → IsWellFormed a → IsWellFormed b → cert_text a ≡ cert_text b → a ≡ b }
 {}
 
-/// No text of a job begins another, and no text of a certificate; and the last line of each, alone, is `end`. So texts that
-/// stand one behind the other are told apart by their lines.
+/// No text of a job begins another, and no text of a certificate; and the last line of each, alone, is `end`. So texts
+/// that stand one behind the other are told apart by their lines.
 pub fn texts_end()
     ensures { TextsEnd }
 {}

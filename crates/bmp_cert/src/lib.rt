@@ -1,7 +1,7 @@
 //! Jobs and certificates: their types, their texts, and the rules of a job.
 //!
-//! A job is a Cartan matrix, a prime, a word, a degree bound and a lattice. A certificate is a job with the part of each
-//! vertex: the degrees of its generators, the lifts on its edges, and the evidence of each degree.
+//! A job is a Cartan matrix, a prime, a word, a degree bound and a lattice. A certificate is a job with the part of
+//! each vertex: the degrees of its generators, the lifts on its edges, and the evidence of each degree.
 //! The grammar of both texts stands in `specs/` as readers (which give a value, or the first fault) with
 //! printed forms (LatticeGrammar, JobGrammar, VectorGrammar, BlockGrammar, CertGrammar), the version of a certificate
 //! being their parameter (Versions); `laws` says that each well formed value has one text, and each text one value.
@@ -16,9 +16,9 @@ mod job;
 mod job_fault;
 mod job_formed;
 mod job_reader;
-pub mod laws;
 mod lattice;
 mod lattice_text;
+pub mod laws;
 mod line_counts;
 mod lists;
 mod part;

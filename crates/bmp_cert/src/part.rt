@@ -110,14 +110,7 @@ fn part_of(
     let edges = count_line(lines, b"edges", 0)?;
     let count = u64::from(edges) * u64::from(degrees.len());
     let lifts = vectors_of(alloc, lines, b"lift", most, count)?;
-    let blocks = blocks_of(
-        alloc,
-        lines,
-        version,
-        most,
-        &degrees,
-        u64::from(degree) + 1,
-    )?;
+    let blocks = blocks_of(alloc, lines, version, most, &degrees, u64::from(degree) + 1)?;
     Ok(VertexPart {
         degrees,
         edges,
@@ -191,8 +184,8 @@ pub(crate) fn part_lines_of(
 }
 
 /// Reads the line `vertices n` and the parts of the vertices as a version has them, or gives the first fault in reading
-/// order: vectors with values below `prime`, and degrees up to `degree`. After an error `lines` stands where it stood, or
-/// behind a later line: at the start of a line, or at the end of the text.
+/// order: vectors with values below `prime`, and degrees up to `degree`. After an error `lines` stands where it stood,
+/// or behind a later line: at the start of a line, or at the end of the text.
 pub fn read_parts(
     alloc: Global,
     lines: &mut Lines,

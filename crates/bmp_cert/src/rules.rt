@@ -136,8 +136,8 @@ fn graph_of_job(alloc: Global, j: &Job, interval: &Interval) -> Result<MomentGra
     }
 }
 
-/// Tries all rules but that of parallel labels, and gives the first that fails. Where all hold, the job is kept with its
-/// interval and its moment graph.
+/// Tries all rules but that of parallel labels, and gives the first that fails. Where all hold, the job is kept with
+/// its interval and its moment graph.
 pub fn prepare_job(alloc: Global, j: &Job) -> Result<Prepared, JobError>
     ensures kept { OnOk result (KeepsAll graph_rules j.now) }
     ensures job { IfOk result (λ p. job_of p ≡ j.now) }

@@ -37,21 +37,27 @@ use Rattle.bmp_check.specs.Accepted.{IsAccepted, IsCheckableGraph, IsCheckable, 
 
 -- ---- the greatest element of an interval
 
-once_apart : {X : Type 0} (xs : List X) (i j : ℕ) (d : X) → HasEachOnce xs → i < j → j < length xs → get_or xs i d ≡ get_or xs j d → ⊥
+once_apart : {X : Type 0} (xs : List X) (i j : ℕ) (d : X) → HasEachOnce xs → i < j → j < length xs →
+    get_or xs i d ≡ get_or xs j d → ⊥
 once_apart {X = X} [] i j d once before within same = absurd (omega arith)
 once_apart {X = X} (x ∷ xs) i zero d once before within same = absurd (omega arith)
-once_apart {X = X} (x ∷ xs) zero (suc j) d once before within same = once.0 (subst (λ (z : X). Member z xs) (sym same) (member_at xs j d (omega arith)))
-once_apart {X = X} (x ∷ xs) (suc i) (suc j) d once before within same = once_apart xs i j d once.1 (omega arith) (omega arith) same
+once_apart {X = X} (x ∷ xs) zero (suc j) d once before within same =
+    once.0 (subst (λ (z : X). Member z xs) (sym same) (member_at xs j d (omega arith)))
+once_apart {X = X} (x ∷ xs) (suc i) (suc j) d once before within same =
+    once_apart xs i j d once.1 (omega arith) (omega arith) same
 
-module _ (m : CartanMatrix) (roots : List Vector) (system : IsRootSystem m roots) (word : List ℕ) (list : List Elem) (interval : IsInterval m roots word list) where
+module _ (m : CartanMatrix) (roots : List Vector) (system : IsRootSystem m roots) (word : List ℕ) (list : List Elem)
+    (interval : IsInterval m roots word list) where
   -- the last vertex is longer than each other
-  last_is_longest : (x : ℕ) (d : Elem) → x + 1 < length list → element_length roots (get_or list x d) < element_length roots (get_or list (length list - 1) d)
+  last_is_longest : (x : ℕ) (d : Elem) → x + 1 < length list →
+      element_length roots (get_or list x d) < element_length roots (get_or list (length list - 1) d)
   last_is_longest x d within =
       let inside : x < length list = omega arith in
       let product : IsProduct m word (get_or list (length list - 1) d) = interval.top d in
       let whole : element_length roots (get_or list (length list - 1) d) ≡ length word =
       element_length-product m roots system word (get_or list (length list - 1) d) product ∙ interval.reduced in
-      elim (only_longest m roots system word product.letters interval.reduced (get_or list x d) (interval.vertices.each (get_or list x d) (member_at list x d inside))) [
+      elim (only_longest m roots system word product.letters interval.reduced (get_or list x d)
+      (interval.vertices.each (get_or list x d) (member_at list x d inside))) [
         | inl equal ↦
             absurd (once_apart list x (length list - 1) d interval.vertices.once (omega arith) (omega arith)
             (same_element m word word (get_or list x d) (get_or list (length list - 1) d) equal product refl))
@@ -64,8 +70,10 @@ module _ {j : Job} {G : Graph} (of : IsJobGraph j G) where
   abbrev roots : List Vector
   roots = positive_roots_of of.roots
 
-  length_is : (x : ℕ) (d : Elem) → x < length of.vertices → length_at G x ≡ element_length roots (get_or of.vertices x d)
-  length_is x d within = ap (λ (ls : List ℕ). get_or ls x 0) of.bruhat.lengths ∙ get_or-map (element_length roots) of.vertices x d 0 within
+  length_is : (x : ℕ) (d : Elem) → x < length of.vertices →
+      length_at G x ≡ element_length roots (get_or of.vertices x d)
+  length_is x d within = ap (λ (ls : List ℕ). get_or ls x 0) of.bruhat.lengths
+      ∙ get_or-map (element_length roots) of.vertices x d 0 within
 
   count : vertex_count G ≡ length of.vertices
   count = ap length of.bruhat.lengths ∙ length-map of.vertices (element_length roots)
@@ -79,13 +87,15 @@ module _ {j : Job} {G : Graph} (of : IsJobGraph j G) where
         vertex = omega arith;
         longest = λ x within other.
             let low = length_is x none (omega arith) in
-            let high : length_at G (top_vertex G) ≡ element_length roots (get_or of.vertices (length of.vertices - 1) none) =
+            let high : length_at G (top_vertex G)
+            ≡ element_length roots (get_or of.vertices (length of.vertices - 1) none) =
             ap (λ n. length_at G (n - 1)) count ∙ length_is (length of.vertices - 1) none (omega arith) in
             omega (
               arith,
               low,
               high,
-              last_is_longest (matrix_of of.roots) roots (root_system of.roots) (word_of j.word) of.vertices of.interval.interval x none (omega arith),
+              last_is_longest (matrix_of of.roots) roots (root_system of.roots) (word_of j.word) of.vertices
+                  of.interval.interval x none (omega arith),
             );
       }
 
@@ -110,7 +120,8 @@ known_version Plain v h = (h.0, omega (arith, h.1))
 known_version Root v h = (omega (arith, h), omega (arith, h))
 known_version Weight v h = (omega (arith, h), omega (arith, h))
 
-checkable_on : (G : Graph) (c : Cert) → IsWellFormed c → IsCheckableGraph G → c.job.degree ≤ 6 → G.prime ≡ c.job.prime → IsCheckable G c.version (written_by c)
+checkable_on : (G : Graph) (c : Cert) → IsWellFormed c → IsCheckableGraph G → c.job.degree ≤ 6 → G.prime ≡ c.job.prime →
+    IsCheckable G c.version (written_by c)
 checkable_on G c formed on degree prime = record {
   version = known_version c.job.lattice c.version formed.version;
   on = on;
@@ -120,7 +131,8 @@ checkable_on G c formed on degree prime = record {
 
 pub accepted_is_checkable : AcceptedIsCheckable
 accepted_is_checkable G c accepted =
-    checkable_on G c accepted.formed (on_job accepted.graph (keeps_prime c.job accepted.rules)) (keeps_degree c.job accepted.rules) accepted.graph.bruhat.prime
+    checkable_on G c accepted.formed (on_job accepted.graph (keeps_prime c.job accepted.rules))
+    (keeps_degree c.job accepted.rules) accepted.graph.bruhat.prime
 
 -- ---- from what is kept with an accepted job
 
@@ -144,11 +156,13 @@ checkable_prop : (g : Graph) → IsProp (IsCheckableGraph g)
 checkable_prop g = hlevel (le_prop, graph_prop, true_prop, top_prop)
 
 pub job_is_checkable :
-    (c : Cert) (interval : Interval) (G : Graph) → IsWellFormed c → ∥ IsPrepared c.job interval G ∥₁ → ∥ KeepsAll rules c.job ∥₁ →
+    (c : Cert) (interval : Interval) (G : Graph) → IsWellFormed c → ∥ IsPrepared c.job interval G ∥₁ →
+    ∥ KeepsAll rules c.job ∥₁ →
     IsCheckable G c.version (written_by c)
 job_is_checkable c interval G formed prepared keeps =
     let of : IsPrepared c.job interval G → IsJobGraph c.job G = prepared_graph c.job interval G in
     checkable_on G c formed
-    (∥∥₁_elim prepared (checkable_prop G) (λ p. ∥∥₁_elim keeps (checkable_prop G) (λ k. on_job (of p) (keeps_prime c.job k))))
+    (∥∥₁_elim prepared (checkable_prop G)
+    (λ p. ∥∥₁_elim keeps (checkable_prop G) (λ k. on_job (of p) (keeps_prime c.job k))))
     (∥∥₁_elim keeps le_prop (λ k. keeps_degree c.job k))
     (∥∥₁_elim prepared (ℕ_set G.prime c.job.prime) (λ p. p.bruhat.prime))

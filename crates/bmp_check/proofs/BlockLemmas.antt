@@ -26,7 +26,8 @@ module _ (n D : ℕ) where
   row_before i j less =
       let at_i : i / (D + 1) * (D + 1) + i % (D + 1) ≡ i = div-add-mod' i (D + 1) in
       let at_j : j / (D + 1) * (D + 1) + j % (D + 1) ≡ j = div-add-mod' j (D + 1) in
-      let earlier : i / (D + 1) * (D + 1) + i % (D + 1) < j / (D + 1) * (D + 1) = place_below (i / (D + 1)) (j / (D + 1)) (i % (D + 1)) (D + 1) less (mod_below i (D + 1) (omega arith)) in
+      let earlier : i / (D + 1) * (D + 1) + i % (D + 1) < j / (D + 1) * (D + 1) =
+      place_below (i / (D + 1)) (j / (D + 1)) (i % (D + 1)) (D + 1) less (mod_below i (D + 1) (omega arith)) in
       omega (arith, at_i, at_j, earlier)
 
   same_row : (i j : ℕ) → i / (D + 1) ≡ j / (D + 1) → (i < j) ↔ (i % (D + 1) < j % (D + 1))
@@ -36,7 +37,8 @@ module _ (n D : ℕ) where
       let rows : i / (D + 1) * (D + 1) ≡ j / (D + 1) * (D + 1) = ap (λ q. q * (D + 1)) same in
       ((λ l. omega (arith, at_i, at_j, rows, l)), (λ l. omega (arith, at_i, at_j, rows, l)))
 
-  in_order : (i j : ℕ) → i < block_count n D → j < block_count n D → (i < j) ↔ BlockIsBefore (block_vertex n D i) (block_degree D i) (block_vertex n D j) (block_degree D j)
+  in_order : (i j : ℕ) → i < block_count n D → j < block_count n D →
+      (i < j) ↔ BlockIsBefore (block_vertex n D i) (block_degree D i) (block_vertex n D j) (block_degree D j)
   in_order i j i_below j_below =
       let i_row = row_below i i_below in
       let j_row = row_below j j_below in (
@@ -44,7 +46,8 @@ module _ (n D : ℕ) where
           | inl before ↦ inl (omega (arith, before, j_row))
           | inr from ↦ elim (cases_eq (i / (D + 1)) (j / (D + 1))) [
             | inl same ↦ inr (ap (λ q. n - 2 - q) same, (same_row i j same).0 less)
-            | inr other ↦ let after : j < i = row_before j i (omega (arith, from, other)) in absurd (omega (arith, after, less))
+            | inr other ↦ let after : j < i = row_before j i (omega (arith, from, other)) in
+                absurd (omega (arith, after, less))
           ]
         ]),
         (λ before. elim before [
@@ -74,7 +77,8 @@ module _ (P : ℕ → ℕ → Type 0) (n D : ℕ) where
       let has : HasNumber n D x d k = numbered_at n D x d vertex degree in
       at_number x d k has (holds k has.below)
 
-  pub holds_of_earlier : (i : ℕ) → i < block_count n D → HoldsBefore P n D i → (x d : ℕ) → x + 1 < n → d ≤ D → BlockIsBefore x d (block_vertex n D i) (block_degree D i) → P x d
+  pub holds_of_earlier : (i : ℕ) → i < block_count n D → HoldsBefore P n D i → (x d : ℕ) → x + 1 < n → d ≤ D →
+      BlockIsBefore x d (block_vertex n D i) (block_degree D i) → P x d
   holds_of_earlier i below holds x d vertex degree before =
       let k = (n - 2 - x) * (D + 1) + d in
       let has : HasNumber n D x d k = numbered_at n D x d vertex degree in
@@ -83,23 +87,31 @@ module _ (P : ℕ → ℕ → Type 0) (n D : ℕ) where
       (subst (λ e. BlockIsBefore x e (block_vertex n D i) (block_degree D i)) (sym has.degree) before) in
       at_number x d k has (holds k ((in_order n D k i has.below below).1 read))
 
--- ---- the loop over the blocks of a certificate: x and d are those of the block number i, and P says that a block passes
+-- ---- the loop over the blocks of a certificate: x and d are those of the block number i, and P says that a block
+-- passes
 
-module _ (G : Graph) (c : Written) (P : ℕ → ℕ → Type 0) (n D i : ℕ) (vertices : n ≡ vertex_count G) (bound : D ≡ c.degree) (holds : HoldsBefore P n D i) where
+module _ (G : Graph) (c : Written) (P : ℕ → ℕ → Type 0) (n D i : ℕ) (vertices : n ≡ vertex_count G)
+    (bound : D ≡ c.degree) (holds : HoldsBefore P n D i) where
   pub blocks_all : block_count n D ≤ i → (x d : ℕ) → HasBlock G c x d → P x d
-  blocks_all past x d block = holds_of_all P n D (λ k below. holds k (omega arith)) x d (omega (arith, block.0, vertices)) (omega (arith, block.1, bound))
+  blocks_all past x d block =
+      holds_of_all P n D (λ k below. holds k (omega arith)) x d (omega (arith, block.0, vertices))
+      (omega (arith, block.1, bound))
 
-  module _ (x d : ℕ) (below : i < block_count n D) (vertex : x ≡ block_vertex n D i) (degree : d ≡ block_degree D i) where
-    pub blocks_here : HasBlock G c x d
-    blocks_here =
-        let is_block = (blocks_numbered n D).is_block i below in
-        (omega (arith, vertex, is_block.0, vertices), omega (arith, degree, is_block.1, bound))
+  module _ (x d : ℕ) (below : i < block_count n D) (vertex : x ≡ block_vertex n D i) (degree : d ≡ block_degree D i)
+    where
+      pub blocks_here : HasBlock G c x d
+      blocks_here =
+          let is_block = (blocks_numbered n D).is_block i below in
+          (omega (arith, vertex, is_block.0, vertices), omega (arith, degree, is_block.1, bound))
 
-    pub blocks_earlier : (y e : ℕ) → HasBlock G c y e → BlockIsBefore y e x d → P y e
-    blocks_earlier y e block before =
-        holds_of_earlier P n D i below holds y e (omega (arith, block.0, vertices)) (omega (arith, block.1, bound))
-        (subst (λ z. BlockIsBefore y e z (block_degree D i)) vertex (subst (λ z. BlockIsBefore y e x z) degree before))
+      pub blocks_earlier : (y e : ℕ) → HasBlock G c y e → BlockIsBefore y e x d → P y e
+      blocks_earlier y e block before =
+          holds_of_earlier P n D i below holds y e (omega (arith, block.0, vertices)) (omega (arith, block.1, bound))
+          (subst (λ z. BlockIsBefore y e z (block_degree D i)) vertex
+          (subst (λ z. BlockIsBefore y e x z) degree before))
 
-    -- the block passes too
-    pub blocks_more : P x d → HoldsBefore P n D (i + 1)
-    blocks_more here = below_more (λ k. P (block_vertex n D k) (block_degree D k)) i holds (subst (λ z. P z (block_degree D i)) vertex (subst (P x) degree here))
+      -- the block passes too
+      pub blocks_more : P x d → HoldsBefore P n D (i + 1)
+      blocks_more here =
+          below_more (λ k. P (block_vertex n D k) (block_degree D k)) i holds
+          (subst (λ z. P z (block_degree D i)) vertex (subst (P x) degree here))

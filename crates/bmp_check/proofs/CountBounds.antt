@@ -31,12 +31,15 @@ count_few r d le small =
     ∙ agree_below_at (λ i. leb (count (i / 7) (i % 7)) 255) (λ i. true) 42 (r * 7 + d) refl (omega arith))
 
 -- one generator more, of degree e
-module _ (r : ℕ) (degrees : List ℕ) (d n e size : ℕ) (read : e ≡ get_or degrees n 0) (so_far : size ≡ stalk_start r degrees d n) where
+module _ (r : ℕ) (degrees : List ℕ) (d n e size : ℕ) (read : e ≡ get_or degrees n 0)
+    (so_far : size ≡ stalk_start r degrees d n) where
   step : size + component_count r d e ≡ stalk_start r degrees d (n + 1)
-  step = ap₂ (λ a b. a + component_count r d b) so_far read ∙ sym (sum_below_more (λ h. component_count r d (get_or degrees h 0)) n)
+  step = ap₂ (λ a b. a + component_count r d b) so_far read
+      ∙ sym (sum_below_more (λ h. component_count r d (get_or degrees h 0)) n)
 
   pub stalk_start_more : e ≤ d → size + count r (d - e) ≡ stalk_start r degrees d (n + 1)
-  stalk_start_more within = ap (λ z. size + z) (sym (cond-true {A = ℕ} (leb e d) (count r (d - e)) 0 (le-leb e d within))) ∙ step
+  stalk_start_more within =
+      ap (λ z. size + z) (sym (cond-true {A = ℕ} (leb e d) (count r (d - e)) 0 (le-leb e d within))) ∙ step
 
   pub stalk_start_same : d < e → size ≡ stalk_start r degrees d (n + 1)
   stalk_start_same past = omega (arith, cond-false {A = ℕ} (leb e d) (count r (d - e)) 0 (lt-leb e d past), step)
@@ -52,7 +55,13 @@ module _ (r : ℕ) (degrees : List ℕ) (d most : ℕ) (bound : (s : ℕ) → s 
   stalk_start_most zero = omega (arith, sum_below-zero (λ h. component_count r d (get_or degrees h 0)))
   stalk_start_most (suc n) =
       let one : suc n * most ≡ n * most + most = grind arith in
-      omega (arith, one, stalk_start_most n, component_most (get_or degrees n 0), sum_below-suc (λ h. component_count r d (get_or degrees h 0)) n)
+      omega (
+        arith,
+        one,
+        stalk_start_most n,
+        component_most (get_or degrees n 0),
+        sum_below-suc (λ h. component_count r d (get_or degrees h 0)) n,
+      )
 
 module _ (r : ℕ) (degrees : List ℕ) (d n : ℕ) (few : n < 2 ^ 32) (small : d ≤ 6) where
   pub stalk_start_small : r ≤ 6 → stalk_start r degrees d n ≤ 462 * 2 ^ 32

@@ -49,7 +49,8 @@ use Rattle.bmp_check.proofs.Soundness.{top_degrees}
 use Rattle.bmp_check.proofs.TupleCountLemmas.{tuples_counted, has_its_block, not_greatest}
 use Rattle.bmp_check.proofs.SheafLemmas.{in_memory, as_written}
 
-module _ {G : Graph} {v : ℕ} {c : Written} {t : SizeTable} {F : Type 0} {s : SheafState F} (whole : IsShaped G v c t s) (levels : method_of v ≡ Levels) where
+module _ {G : Graph} {v : ℕ} {c : Written} {t : SizeTable} {F : Type 0} {s : SheafState F} (whole : IsShaped G v c t s)
+    (levels : method_of v ≡ Levels) where
   at_level : (x d : ℕ) → HasBlock G c x d → IsAtBlock G Levels c s x d
   at_level x d block = subst (λ (m : Method). IsAtBlock G m c s x d) levels (at_block whole x d block)
 
@@ -60,9 +61,11 @@ module _ {G : Graph} {v : ℕ} {c : Written} {t : SizeTable} {F : Type 0} {s : S
   pub has_top : TopPasses G c → HasTop s
   has_top passes =
       let n : vertex_count s.graph ≡ vertex_count G = ap (λ (H : Graph). vertex_count H) whole.sheaf.graph in
-      let one : (part_of c (top_vertex G)).degrees ≡ 0 ∷ [] = subst (λ k. (part_of c (k - 1)).degrees ≡ 0 ∷ []) whole.count (top_degrees c passes) in
+      let one : (part_of c (top_vertex G)).degrees ≡ 0 ∷ [] =
+      subst (λ k. (part_of c (k - 1)).degrees ≡ 0 ∷ []) whole.count (top_degrees c passes) in
       record {
-        is_top = kept (λ (H : Graph) (S : SheafData). IsTopVertex H (vertex_count H - 1)) whole.checkable.on.last_is_top;
+        is_top = kept (λ (H : Graph) (S : SheafData). IsTopVertex H (vertex_count H - 1))
+            whole.checkable.on.last_is_top;
         one = kept (λ (H : Graph) (S : SheafData). S.degrees (vertex_count H - 1) ≡ 0 ∷ []) one;
       }
 
@@ -71,11 +74,12 @@ module _ {G : Graph} {v : ℕ} {c : Written} {t : SizeTable} {F : Type 0} {s : S
     blocks y = block_of c y d
 
     -- a vertex of the graph in memory that is shorter than the greatest
-    has_own : (x : ℕ) → x < vertex_count s.graph → length_at s.graph x < length_at s.graph (vertex_count s.graph - 1) → HasBlock G c x d
+    has_own : (x : ℕ) → x < vertex_count s.graph → length_at s.graph x < length_at s.graph (vertex_count s.graph - 1) →
+        HasBlock G c x d
     has_own x vertex shorter =
         let read = whole.sheaf.graph in (
           not_greatest G x (subst (λ (H : Graph). x < vertex_count H) read vertex)
-          (subst (λ (H : Graph). length_at H x < length_at H (vertex_count H - 1)) read shorter),
+              (subst (λ (H : Graph). length_at H x < length_at H (vertex_count H - 1)) read shorter),
           within,
         )
 
@@ -90,39 +94,51 @@ module _ {G : Graph} {v : ℕ} {c : Written} {t : SizeTable} {F : Type 0} {s : S
           record {
             there = (has_stalks at).there;
             few = (has_stalks at).few;
-            covers = kept (λ (H : Graph) (S : SheafData). length own.cover.covers ≤ member_count H d (vertex_count H - 1) blocks (suc (length_at H x))) (omega (arith, counted));
-            covers_fit = kept (λ (H : Graph) (S : SheafData). All (λ v. FitsBelow v (stalk_size H S d x)) own.cover.covers)
-                (All-weaker (IsVectorIn G.prime (counts_at G Levels c x d).stalk) (λ (v : List Entry). FitsBelow v (stalk_size G (parts_sheaf G c) d x)) (λ v in_it. in_it.fits) own.cover.covers at.fits.covers);
-            basis_fit = kept (λ (H : Graph) (S : SheafData). All (λ v. FitsBelow v (stalk_size H S d x)) own.kernel.basis) at.fits.kernel.basis_fits;
+            covers = kept (λ (H : Graph) (S : SheafData). length own.cover.covers ≤ member_count H d
+                (vertex_count H - 1) blocks (suc (length_at H x))) (omega (arith, counted));
+            covers_fit = kept
+                (λ (H : Graph) (S : SheafData). All (λ v. FitsBelow v (stalk_size H S d x)) own.cover.covers)
+                (All-weaker (IsVectorIn G.prime (counts_at G Levels c x d).stalk)
+                (λ (v : List Entry). FitsBelow v (stalk_size G (parts_sheaf G c) d x)) (λ v in_it. in_it.fits)
+                own.cover.covers at.fits.covers);
+            basis_fit = kept (λ (H : Graph) (S : SheafData). All (λ v. FitsBelow v (stalk_size H S d x))
+                own.kernel.basis) at.fits.kernel.basis_fits;
           },
         )
 
     -- the same of the blocks in memory
     pub blocks_fit : (b : DegreeBlocks) → written_in b.given ≡ c → b.degree ≡ d → AllFit s d (has_block b) (block_at b)
     blocks_fit b is degree =
-        subst (λ e. AllFit s d (λ x. ltb x (length b.given.parts.now) && ltb e (length (part_of (written_in b.given) x).blocks)) (λ x. block_of (written_in b.given) x e)) (sym degree)
-        (subst (λ (w : Written). AllFit s d (λ x. ltb x (length w.parts) && ltb d (length (part_of w x).blocks)) (λ x. block_of w x d)) (sym is) all_fit)
+        subst (λ e. AllFit s d
+        (λ x. ltb x (length b.given.parts.now) && ltb e (length (part_of (written_in b.given) x).blocks))
+        (λ x. block_of (written_in b.given) x e)) (sym degree)
+        (subst (λ (w : Written). AllFit s d (λ x. ltb x (length w.parts) && ltb d (length (part_of w x).blocks))
+        (λ x. block_of w x d)) (sym is) all_fit)
 
     blocks_below : BlocksAreBelow s.graph (vertex_count s.graph - 1) blocks
     blocks_below = record {
       basis = λ x vertex shorter.
           let at = at_level x d (has_own x vertex shorter) in
-          subst (λ p. All (λ (v : List Entry). ValuesBelow v p) (block_of c x d).kernel.basis) (sym (prime_is at)) at.fits.kernel_below.basis_below;
+          subst (λ p. All (λ (v : List Entry). ValuesBelow v p) (block_of c x d).kernel.basis) (sym (prime_is at))
+          at.fits.kernel_below.basis_below;
       covers = λ x vertex shorter.
           let at = at_level x d (has_own x vertex shorter) in
           let covers = (block_of c x d).cover.covers in
           subst (λ p. All (λ (v : List Entry). ValuesBelow v p) covers) (sym (prime_is at))
-          (All-weaker (IsVectorIn G.prime (counts_at G Levels c x d).stalk) (λ (v : List Entry). ValuesBelow v G.prime) (λ v in_it. in_it.below) covers at.fits.covers);
+          (All-weaker (IsVectorIn G.prime (counts_at G Levels c x d).stalk) (λ (v : List Entry). ValuesBelow v G.prime)
+          (λ v in_it. in_it.below) covers at.fits.covers);
     }
 
     -- a list with the values of the family over the longer vertices
-    module _ (x : ℕ) {list : TupleList} (same : SameList (level_vertices G (suc (length_at G x))) list (family_at G c x d)) where
+    module _ (x : ℕ) {list : TupleList}
+        (same : SameList (level_vertices G (suc (length_at G x))) list (family_at G c x d)) where
       pub member_tuples : HasTuples s x d list
       member_tuples =
           let over = over_field whole.checkable.on in
           has_tuples x (subst IsGraph (sym whole.sheaf.graph) whole.checkable.on.graph)
           (kept (λ (H : Graph) (S : SheafData). 2 ≤ H.prime) over.two) blocks_below
-          (kept (λ (H : Graph) (S : SheafData). SameList (level_vertices H (suc (length_at H x))) list (family H S d (vertex_count H - 1) blocks (suc (length_at H x)))) same)
+          (kept (λ (H : Graph) (S : SheafData). SameList (level_vertices H (suc (length_at H x))) list
+          (family H S d (vertex_count H - 1) blocks (suc (length_at H x)))) same)
 
       same_above : SameList (above G x) list (family_at G c x d)
       same_above =
@@ -135,18 +151,23 @@ module _ {G : Graph} {v : ℕ} {c : Written} {t : SizeTable} {F : Type 0} {s : S
             value = λ j y k member high coordinate. same.value j y k member (long y high) coordinate;
           }
 
-      pub same_comparisons : (r : CoverFault) → CoverCompares G (parts_sheaf G c) x d list (block_of c x d).cover r ↔ CoverComparesAt G Levels c x d r
+      pub same_comparisons : (r : CoverFault) → CoverCompares G (parts_sheaf G c) x d list (block_of c x d).cover r ↔
+          CoverComparesAt G Levels c x d r
       same_comparisons =
-          comparisons_agree G (parts_sheaf G c) x d list (family_at G c x d) (block_of c x d).cover (over_field whole.checkable.on)
-          whole.checkable.on.few_variables same_above (λ y high. family_size G (parts_sheaf G c) d (top_vertex G) blocks (suc (length_at G x)) y)
+          comparisons_agree G (parts_sheaf G c) x d list (family_at G c x d) (block_of c x d).cover
+          (over_field whole.checkable.on)
+          whole.checkable.on.few_variables same_above
+          (λ y high. family_size G (parts_sheaf G c) d (top_vertex G) blocks (suc (length_at G x)) y)
 
 -- ---- the members that a block speaks of
 
 module _
-    {G : Graph} {v : ℕ} {c : Written} {t : SizeTable} {F : Type 0} {s : SheafState F} (whole : IsShaped G v c t s) (levels : method_of v ≡ Levels)
+    {G : Graph} {v : ℕ} {c : Written} {t : SizeTable} {F : Type 0} {s : SheafState F} (whole : IsShaped G v c t s)
+    (levels : method_of v ≡ Levels)
     (x d : ℕ) (block : HasBlock G c x d) {own : DegreeBlock} (is : own ≡ block_of c x d) where
   covers_are : length own.cover.covers ≡ (family_at G c x d).count
-  covers_are = ap (λ (b : DegreeBlock). length b.cover.covers) is ∙ (at_level whole levels x d block).fits.cover_for_each
+  covers_are = ap (λ (b : DegreeBlock). length b.cover.covers) is
+      ∙ (at_level whole levels x d block).fits.cover_for_each
 
   shorter : suc (length_at G x) ≤ length_at G (top_vertex G)
   shorter = whole.checkable.on.last_is_top.longest x (omega (arith, block.0)) (λ same. omega (arith, same, block.0))
@@ -160,8 +181,10 @@ module _
         {m n : ℕ} {h : FamilyTable} → m ≡ n → h ≡ f → n ≡ length own.cover.covers →
         SameList (level_vertices G (suc (length_at G x))) (first_members m (list_of h)) (family_at G c x d)
     members_same {m = m} {n = n} {h = h} number family counted =
-        subst (λ k. SameList (level_vertices G (suc (length_at G x))) (first_members k (list_of h)) (family_at G c x d)) (sym (number ∙ counted ∙ covers_are))
-        (subst (λ (g : FamilyTable). SameList (level_vertices G (suc (length_at G x))) (first_members (family_at G c x d).count (list_of g)) (family_at G c x d)) (sym family)
+        subst (λ k. SameList (level_vertices G (suc (length_at G x))) (first_members k (list_of h)) (family_at G c x d))
+        (sym (number ∙ counted ∙ covers_are))
+        (subst (λ (g : FamilyTable). SameList (level_vertices G (suc (length_at G x)))
+        (first_members (family_at G c x d).count (list_of g)) (family_at G c x d)) (sym family)
         (holds (suc (length_at G x)) shorter).1)
 
 -- ---- the families that are made
@@ -170,35 +193,41 @@ abbrev pub HoldsIn : (ℕ → DegreeBlock) → ℕ → FamilyTable → Graph →
 HoldsIn blocks d f H S =
     (k : ℕ) → k ≤ length_at H (vertex_count H - 1) →
     ((family H S d (vertex_count H - 1) blocks k).count ≤ f.count)
-    × SameList (level_vertices H k) (first_members (family H S d (vertex_count H - 1) blocks k).count (list_of f)) (family H S d (vertex_count H - 1) blocks k)
+    × SameList (level_vertices H k) (first_members (family H S d (vertex_count H - 1) blocks k).count (list_of f))
+    (family H S d (vertex_count H - 1) blocks k)
 
-module _ {G : Graph} {v : ℕ} {c : Written} {t : SizeTable} {F : Type 0} {s : SheafState F} (whole : IsShaped G v c t s) where
-  -- of blocks b and a sheaf u that are read
-  pub families_written :
-      (b : DegreeBlocks) {u : SheafState F} (f : FamilyTable) → written_in b.given ≡ c → u ≡ s →
-      HoldsIn (block_at b) b.degree f u.graph (sheaf_of u) → HoldsFamilies G c b.degree f
-  families_written b {u = u} f is same h =
-      as_written G c whole.count s whole.sheaf (HoldsIn (λ y. block_of c y b.degree) b.degree f)
-      (subst (λ (w : SheafState F). HoldsIn (λ y. block_of c y b.degree) b.degree f w.graph (sheaf_of w)) same
-      (subst (λ (e : Written). HoldsIn (λ y. block_of e y b.degree) b.degree f u.graph (sheaf_of u)) is h))
+module _ {G : Graph} {v : ℕ} {c : Written} {t : SizeTable} {F : Type 0} {s : SheafState F} (whole : IsShaped G v c t s)
+  where
+    -- of blocks b and a sheaf u that are read
+    pub families_written :
+        (b : DegreeBlocks) {u : SheafState F} (f : FamilyTable) → written_in b.given ≡ c → u ≡ s →
+        HoldsIn (block_at b) b.degree f u.graph (sheaf_of u) → HoldsFamilies G c b.degree f
+    families_written b {u = u} f is same h =
+        as_written G c whole.count s whole.sheaf (HoldsIn (λ y. block_of c y b.degree) b.degree f)
+        (subst (λ (w : SheafState F). HoldsIn (λ y. block_of c y b.degree) b.degree f w.graph (sheaf_of w)) same
+        (subst (λ (e : Written). HoldsIn (λ y. block_of e y b.degree) b.degree f u.graph (sheaf_of u)) is h))
 
 pub families_none : (G : Graph) (c : Written) → AreFamilies G c 0 []
 families_none G c = record { sized = refl; each = λ d below. absurd (omega arith) }
 
 pub families_more :
-    (G : Graph) (c : Written) (n : ℕ) (fs : List FamilyTable) (f : FamilyTable) {all : List FamilyTable} → all ≡ fs ++ f ∷ [] →
+    (G : Graph) (c : Written) (n : ℕ) (fs : List FamilyTable) (f : FamilyTable) {all : List FamilyTable} →
+    all ≡ fs ++ f ∷ [] →
     AreFamilies G c n fs → HoldsFamilies G c n f → AreFamilies G c (n + 1) all
 families_more G c n fs f {all = all} pushed made holds = record {
   sized = omega (arith, ap length pushed, length-append fs (f ∷ []), made.sized);
   each = λ d below. elim (cases_eq d n) [
     | inl last ↦
         let here : get_or all d no_family ≡ f =
-        ap (λ (l : List FamilyTable). get_or l d no_family) pushed ∙ get_or-append_right fs (f ∷ []) n d no_family made.sized (omega arith)
+        ap (λ (l : List FamilyTable). get_or l d no_family) pushed
+        ∙ get_or-append_right fs (f ∷ []) n d no_family made.sized (omega arith)
         ∙ ap (λ k. get_or (f ∷ []) k no_family) (let none : d - n ≡ 0 = omega arith in none) in
-        subst (λ (g : FamilyTable). HoldsFamilies G c d g) (sym here) (subst (λ e. HoldsFamilies G c e f) (sym last) holds)
+        subst (λ (g : FamilyTable). HoldsFamilies G c d g) (sym here)
+        (subst (λ e. HoldsFamilies G c e f) (sym last) holds)
     | inr other ↦
         let here : get_or all d no_family ≡ get_or fs d no_family =
-        ap (λ (l : List FamilyTable). get_or l d no_family) pushed ∙ get_or_append_left fs (f ∷ []) no_family d (omega (arith, made.sized, below, other)) in
+        ap (λ (l : List FamilyTable). get_or l d no_family) pushed
+        ∙ get_or_append_left fs (f ∷ []) no_family d (omega (arith, made.sized, below, other)) in
         subst (λ (g : FamilyTable). HoldsFamilies G c d g) (sym here) (made.each d (omega (arith, below, other)))
   ];
 }
@@ -208,5 +237,7 @@ module _ {s : Setting} {u : Shaped} (same : u ≡ shaped_in s) (set : IsSet s) w
   pub set_whole : IsWhole u
   set_whole = subst IsWhole (sym same) set.whole
 
-  pub set_families : method_at u ≡ Levels → AreFamilies (graph_in u) (cert_in u) ((cert_in u).degree + 1) s.families.items
-  set_families = subst (λ (w : Shaped). method_at w ≡ Levels → AreFamilies (graph_in w) (cert_in w) ((cert_in w).degree + 1) s.families.items) (sym same) set.families
+  pub set_families : method_at u ≡ Levels →
+      AreFamilies (graph_in u) (cert_in u) ((cert_in u).degree + 1) s.families.items
+  set_families = subst (λ (w : Shaped). method_at w ≡ Levels →
+      AreFamilies (graph_in w) (cert_in w) ((cert_in w).degree + 1) s.families.items) (sym same) set.families

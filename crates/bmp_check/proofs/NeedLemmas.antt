@@ -16,7 +16,8 @@ need-last (d ∷ []) (suc n) e rising long = absurd (omega arith)
 need-last (d ∷ f ∷ es) zero e rising long = absurd (omega arith)
 need-last (d ∷ f ∷ es) (suc n) e rising long =
     let rest : need (f ∷ es) ≡ (get_or (f ∷ es) n e).place + 1 = need-last (f ∷ es) n e rising.1 (omega arith) in
-    let later : d.place < (get_or (f ∷ es) n e).place = All-get_or (λ (b : Entry). d.place < b.place) (f ∷ es) n e (omega arith) rising.0 in
+    let later : d.place < (get_or (f ∷ es) n e).place =
+    All-get_or (λ (b : Entry). d.place < b.place) (f ∷ es) n e (omega arith) rising.0 in
     omega (arith, rest, later)
 
 pub need-none : (v : List Entry) → length v ≡ 0 → need v ≡ 0
@@ -24,19 +25,22 @@ unfolding need
 need-none [] none = refl
 need-none (d ∷ es) none = absurd (omega arith)
 
-pub need_of_places-last : (ps : List ℕ) (n : ℕ) → IsStrictlyIncreasing ps → length ps ≡ n + 1 → need_of_places ps ≡ get_or ps n 0 + 1
+pub need_of_places-last : (ps : List ℕ) (n : ℕ) → IsStrictlyIncreasing ps → length ps ≡ n + 1 →
+    need_of_places ps ≡ get_or ps n 0 + 1
 unfolding need_of_places
 need_of_places-last [] n rising long = absurd (omega arith)
 need_of_places-last (p ∷ []) zero rising long = omega arith
 need_of_places-last (p ∷ []) (suc n) rising long = absurd (omega arith)
 need_of_places-last (p ∷ q ∷ ps) zero rising long = absurd (omega arith)
 need_of_places-last (p ∷ q ∷ ps) (suc n) rising long =
-    let tail : IsStrictlyIncreasing (q ∷ ps) = λ k l. let next : suc k + 1 ≡ suc (k + 1) = omega arith in subst (λ m. get_or (q ∷ ps) k 0 < get_or (p ∷ q ∷ ps) m 0) next (rising (suc k) (omega arith)) in
+    let tail : IsStrictlyIncreasing (q ∷ ps) = λ k l. let next : suc k + 1 ≡ suc (k + 1) = omega arith in
+    subst (λ m. get_or (q ∷ ps) k 0 < get_or (p ∷ q ∷ ps) m 0) next (rising (suc k) (omega arith)) in
     let rest : need_of_places (q ∷ ps) ≡ get_or (q ∷ ps) n 0 + 1 = need_of_places-last (q ∷ ps) n tail (omega arith) in
     let next : p < q = rising 0 (omega arith) in
     omega (arith, rest, next, first_least q ps tail n (omega arith))
   where
-    first_least : (q : ℕ) (ps : List ℕ) → IsStrictlyIncreasing (q ∷ ps) → (n : ℕ) → n < suc (length ps) → q ≤ get_or (q ∷ ps) n 0
+    first_least : (q : ℕ) (ps : List ℕ) → IsStrictlyIncreasing (q ∷ ps) → (n : ℕ) → n < suc (length ps) →
+        q ≤ get_or (q ∷ ps) n 0
     first_least q ps rising zero below = omega arith
     first_least q ps rising (suc n) below =
         let so_far : q ≤ get_or (q ∷ ps) n 0 = first_least q ps rising n (omega arith) in
@@ -52,14 +56,17 @@ need_of_places-none (p ∷ ps) none = absurd (omega arith)
 
 -- ---- from the answer of `last`
 
-pub need_at : (v : List Entry) (e : Entry) (place : ℕ) → IsRising v → Some e ≡ slice_get v (length v - 1) → place ≡ e.place → place + 1 ≡ need v
+pub need_at : (v : List Entry) (e : Entry) (place : ℕ) → IsRising v → Some e ≡ slice_get v (length v - 1) →
+    place ≡ e.place → place + 1 ≡ need v
 need_at v e place rising last is =
     let some : slice_get v (length v - 1) ≡ Some e = sym last in
     let within : length v - 1 < length v = slice_get_within v (length v - 1) e some in
     let read : get_or v (length v - 1) e ≡ e = get_or_from_slice_get v (length v - 1) e e some in
-    ap (λ p. p + 1) (is ∙ ap (λ (d : Entry). d.place) (sym read)) ∙ sym (need-last v (length v - 1) e rising (omega arith))
+    ap (λ p. p + 1) (is ∙ ap (λ (d : Entry). d.place) (sym read))
+    ∙ sym (need-last v (length v - 1) e rising (omega arith))
 
-pub need_of_places_at : (ps : List ℕ) (p place : ℕ) → IsStrictlyIncreasing ps → Some p ≡ slice_get ps (length ps - 1) → place ≡ p → place + 1 ≡ need_of_places ps
+pub need_of_places_at : (ps : List ℕ) (p place : ℕ) → IsStrictlyIncreasing ps → Some p ≡ slice_get ps (length ps - 1) →
+    place ≡ p → place + 1 ≡ need_of_places ps
 need_of_places_at ps p place rising last is =
     let some : slice_get ps (length ps - 1) ≡ Some p = sym last in
     let within : length ps - 1 < length ps = slice_get_within ps (length ps - 1) p some in
@@ -69,7 +76,8 @@ need_of_places_at ps p place rising last is =
 pub empty_at : {X : Type 0} (xs : List X) → None ≡ slice_get xs (length xs - 1) → length xs ≡ 0
 empty_at [] last = refl
 empty_at (x ∷ xs) last =
-    let read : slice_get (x ∷ xs) (length (x ∷ xs) - 1) ≡ Some (get_or (x ∷ xs) (length (x ∷ xs) - 1) x) = slice_get-get_or (x ∷ xs) (length (x ∷ xs) - 1) x (omega arith) in
+    let read : slice_get (x ∷ xs) (length (x ∷ xs) - 1) ≡ Some (get_or (x ∷ xs) (length (x ∷ xs) - 1) x) =
+    slice_get-get_or (x ∷ xs) (length (x ∷ xs) - 1) x (omega arith) in
     absurd (none-some (get_or (x ∷ xs) (length (x ∷ xs) - 1) x) (last ∙ read))
 
 -- ---- a need that is not greater
@@ -77,7 +85,8 @@ empty_at (x ∷ xs) last =
 pub fits_from_need : (v : List Entry) (n : ℕ) → need v ≤ n → FitsBelow v n
 unfolding need
 fits_from_need [] n le = All-nil (λ (e : Entry). e.place < n)
-fits_from_need (e ∷ es) n le = All-cons (λ (d : Entry). d.place < n) e es (omega arith) (fits_from_need es n (omega arith))
+fits_from_need (e ∷ es) n le =
+    All-cons (λ (d : Entry). d.place < n) e es (omega arith) (fits_from_need es n (omega arith))
 
 pub below_from_need : (ps : List ℕ) (n : ℕ) → need_of_places ps ≤ n → All (λ k. k < n) ps
 unfolding need_of_places

@@ -12,18 +12,23 @@ use Rattle.bmp_check.specs.Verdicts.{KernelComparesAt, CoverComparesAt, IsKernel
 module _ (G : Graph) {m : Method} (c : Written) (x d : ℕ) (r : Refusal) where
   -- by whole spaces the kernel evidence is compared first
   pub kernel_first : m ≡ Spaces → IsKernelRefusal G m c x d r → IsBlockRefusal G m c x d r
-  kernel_first is = subst (λ (k : Method). IsKernelRefusal G k c x d r → IsBlockRefusal G k c x d r) (sym is) (λ h. inl h)
+  kernel_first is =
+      subst (λ (k : Method). IsKernelRefusal G k c x d r → IsBlockRefusal G k c x d r) (sym is) (λ h. inl h)
 
-  pub cover_second : m ≡ Spaces → AllPass (KernelComparesAt G m c x d) → IsCoverRefusal G m c x d r → IsBlockRefusal G m c x d r
+  pub cover_second : m ≡ Spaces → AllPass (KernelComparesAt G m c x d) → IsCoverRefusal G m c x d r →
+      IsBlockRefusal G m c x d r
   cover_second is =
-      subst (λ (k : Method). AllPass (KernelComparesAt G k c x d) → IsCoverRefusal G k c x d r → IsBlockRefusal G k c x d r) (sym is)
+      subst (λ (k : Method). AllPass (KernelComparesAt G k c x d) → IsCoverRefusal G k c x d r →
+      IsBlockRefusal G k c x d r) (sym is)
       (λ passes h. inr (passes, h))
 
   -- by levels the cover evidence
   pub cover_first : m ≡ Levels → IsCoverRefusal G m c x d r → IsBlockRefusal G m c x d r
   cover_first is = subst (λ (k : Method). IsCoverRefusal G k c x d r → IsBlockRefusal G k c x d r) (sym is) (λ h. inl h)
 
-  pub kernel_second : m ≡ Levels → CoverPasses (CoverComparesAt G m c x d) → IsKernelRefusal G m c x d r → IsBlockRefusal G m c x d r
+  pub kernel_second : m ≡ Levels → CoverPasses (CoverComparesAt G m c x d) → IsKernelRefusal G m c x d r →
+      IsBlockRefusal G m c x d r
   kernel_second is =
-      subst (λ (k : Method). CoverPasses (CoverComparesAt G k c x d) → IsKernelRefusal G k c x d r → IsBlockRefusal G k c x d r) (sym is)
+      subst (λ (k : Method). CoverPasses (CoverComparesAt G k c x d) → IsKernelRefusal G k c x d r →
+      IsBlockRefusal G k c x d r) (sym is)
       (λ passes h. inr (passes, h))

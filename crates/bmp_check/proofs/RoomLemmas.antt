@@ -36,8 +36,10 @@ same_width {G = G} {m = m} {c = c} same width = subst (HasWidth G m c) (sym same
 
 -- the room stays where no list grows shorter
 pub same_room :
-    {G : Graph} {m : Method} {c : Written} (s t : BlockScratch) → length t.index.starts.items ≡ length s.index.starts.items →
-    length t.index.places.items ≡ length s.index.places.items → length t.numbers.first ≡ length s.numbers.first → IsRoomFor G m c s → IsRoomFor G m c t
+    {G : Graph} {m : Method} {c : Written} (s t : BlockScratch) →
+    length t.index.starts.items ≡ length s.index.starts.items →
+    length t.index.places.items ≡ length s.index.places.items → length t.numbers.first ≡ length s.numbers.first →
+    IsRoomFor G m c s → IsRoomFor G m c t
 same_room s t starts places numbers room = record {
   width = same_width numbers room.width;
   vertices = λ spaces. let h = room.vertices spaces in omega (arith, h, starts);
@@ -49,27 +51,32 @@ pub room_more : {F : Type 0} (s : SheafState F) (d n most : ℕ) → n ≤ most 
 room_more s d n most le room x there = let h = room x there in (omega (arith, h.0, le), omega (arith, h.1, le))
 
 pub written_room :
-    (G : Graph) (c : Written) (counted : CountPasses G c) {F : Type 0} (s : SheafState F) (of : IsSheafOf G c s) (n : ℕ) →
+    (G : Graph) (c : Written) (counted : CountPasses G c) {F : Type 0} (s : SheafState F) (of : IsSheafOf G c s)
+    (n : ℕ) →
     ((d : ℕ) → d ≤ c.degree → IsRoom s d n) → (x d : ℕ) → x < vertex_count G → d ≤ c.degree →
     (stalk_count G.rank ((parts_sheaf G c).degrees x) d ≤ n) × (boundary_count G (parts_sheaf G c) x d ≤ n)
 written_room G c counted s of n room x d vertex degree =
-    as_written G c counted s of (λ (H : Graph) (S : SheafData). (stalk_count H.rank (S.degrees x) d ≤ n) × (boundary_count H S x d ≤ n))
+    as_written G c counted s of (λ (H : Graph) (S : SheafData). (stalk_count H.rank (S.degrees x) d ≤ n) ×
+    (boundary_count H S x d ≤ n))
     (room d degree x (is_there G c counted s of x vertex))
 
 -- what the calls on shaped parts read is what they are about
 module _ {G H : Graph} {own g : Given} (graph : H ≡ G) (given : g ≡ own) where
-  pub table_of : {t u : SizeTable} → t ≡ u → AreSizesOf G (method_in own) (written_in own) u → AreSizesOf H (method_in g) (written_in g) t
+  pub table_of : {t u : SizeTable} → t ≡ u → AreSizesOf G (method_in own) (written_in own) u →
+      AreSizesOf H (method_in g) (written_in g) t
   table_of {t = t} {u = u} table h =
       subst (λ (K : Graph). AreSizesOf K (method_in g) (written_in g) t) (sym graph)
       (subst (λ (e : Given). AreSizesOf G (method_in e) (written_in e) t) (sym given)
       (subst (λ (v : SizeTable). AreSizesOf G (method_in own) (written_in own) v) (sym table) h))
 
   pub own_within :
-      (x d : ℕ) (n : BlockSizes) → n ≡ counts_at H (method_in g) (written_in g) x d → (rows most : ℕ) → n.rows ≤ rows → largest n ≤ most →
+      (x d : ℕ) (n : BlockSizes) → n ≡ counts_at H (method_in g) (written_in g) x d → (rows most : ℕ) → n.rows ≤ rows →
+      largest n ≤ most →
       IsWithin G (method_in own) (written_in own) rows most x d
   own_within x d n is rows most few small =
       let here : n ≡ counts_at G (method_in own) (written_in own) x d =
-      is ∙ ap (λ (K : Graph). counts_at K (method_in g) (written_in g) x d) graph ∙ ap (λ (e : Given). counts_at G (method_in e) (written_in e) x d) given in
+      is ∙ ap (λ (K : Graph). counts_at K (method_in g) (written_in g) x d) graph
+      ∙ ap (λ (e : Given). counts_at G (method_in e) (written_in e) x d) given in
       subst (λ (k : BlockSizes). (k.rows ≤ rows) × (largest k ≤ most)) here (few, small)
 
 pub top_of : {G H : Graph} → H ≡ G → IsTopVertex G (top_vertex G) → IsTopVertex H (top_vertex H)

@@ -38,23 +38,31 @@ above_test G is x y b tells = elim (cases_Bool (is_above G x y)) [
 ]
 
 -- one vertex more in a sum over a set
-pub sum_in_more : (U : ℕ → Bool) (f : ℕ → ℕ) (n sum : ℕ) → sum ≡ sum_below (λ y. cond (U y) (f y) 0) n → sum + cond (U n) (f n) 0 ≡ sum_below (λ y. cond (U y) (f y) 0) (n + 1)
-sum_in_more U f n sum so_far = ap (λ z. z + cond (U n) (f n) 0) so_far ∙ sym (sum_below_more (λ y. cond (U y) (f y) 0) n)
+pub sum_in_more : (U : ℕ → Bool) (f : ℕ → ℕ) (n sum : ℕ) → sum ≡ sum_below (λ y. cond (U y) (f y) 0) n →
+    sum + cond (U n) (f n) 0 ≡ sum_below (λ y. cond (U y) (f y) 0) (n + 1)
+sum_in_more U f n sum so_far = ap (λ z. z + cond (U n) (f n) 0) so_far
+    ∙ sym (sum_below_more (λ y. cond (U y) (f y) 0) n)
 
-pub sum_above_same : (G : Graph) (x : ℕ) (f g : ℕ → ℕ) → ((y : ℕ) → y < vertex_count G → f y ≡ g y) → sum_above G x f ≡ sum_above G x g
-sum_above_same G x f g same = sum_below_same (λ y. cond (is_above G x y) (f y) 0) (λ y. cond (is_above G x y) (g y) 0) (vertex_count G) (λ y below. ap (λ z. cond (is_above G x y) z 0) (same y below))
+pub sum_above_same : (G : Graph) (x : ℕ) (f g : ℕ → ℕ) → ((y : ℕ) → y < vertex_count G → f y ≡ g y) →
+    sum_above G x f ≡ sum_above G x g
+sum_above_same G x f g same =
+    sum_below_same (λ y. cond (is_above G x y) (f y) 0) (λ y. cond (is_above G x y) (g y) 0) (vertex_count G)
+    (λ y below. ap (λ z. cond (is_above G x y) z 0) (same y below))
 
 -- one number more
 pub size_numbers_more :
     (f : ℕ → ℕ → ℕ) (w k value : ℕ) (before after : List ℕ) →
-    before ≡ size_numbers f w k → value ≡ f (k / w) (k % w) → after ≡ before ++ value ∷ [] → after ≡ size_numbers f w (k + 1)
+    before ≡ size_numbers f w k → value ≡ f (k / w) (k % w) → after ≡ before ++ value ∷ [] →
+    after ≡ size_numbers f w (k + 1)
 size_numbers_more f w k value before after so_far is pushed =
     let entry : ℕ → ℕ = λ i. f (i / w) (i % w) in
-    pushed ∙ ap₂ (λ (ns : List ℕ) (v : ℕ). ns ++ v ∷ []) so_far is ∙ sym (map-range_with_len_more entry 0 k k (omega arith))
+    pushed ∙ ap₂ (λ (ns : List ℕ) (v : ℕ). ns ++ v ∷ []) so_far is
+    ∙ sym (map-range_with_len_more entry 0 k k (omega arith))
 
 -- a table that is full has the numbers that were written
 module _ (f : ℕ → ℕ → ℕ) (v w k : ℕ) (numbers : List ℕ) (all : k ≡ v * w) (written : numbers ≡ size_numbers f w k) where
-  pub full_list : v ≤ 4096 → w ≤ 7 → All (λ n. n ≤ MOST_SIZE) numbers → IsSizeList (record { vertices = v; width = w; numbers = numbers })
+  pub full_list : v ≤ 4096 → w ≤ 7 → All (λ n. n ≤ MOST_SIZE) numbers →
+      IsSizeList (record { vertices = v; width = w; numbers = numbers })
   full_list few narrow small = record {
     few = few;
     narrow = narrow;
@@ -62,7 +70,8 @@ module _ (f : ℕ → ℕ → ℕ) (v w k : ℕ) (numbers : List ℕ) (all : k �
     small = small;
   }
 
-  pub full_sizes : (n D : ℕ) → v ≡ n → w ≡ D + 1 → AreSizes (record { vertices = v; width = w; numbers = numbers }) n D f
+  pub full_sizes : (n D : ℕ) → v ≡ n → w ≡ D + 1 →
+      AreSizes (record { vertices = v; width = w; numbers = numbers }) n D f
   full_sizes n D vertices width = record {
     vertices = vertices;
     width = width;
@@ -71,7 +80,8 @@ module _ (f : ℕ → ℕ → ℕ) (v w k : ℕ) (numbers : List ℕ) (all : k �
         let row : (x * w + d) / w ≡ x = div-mul-add x w d (omega arith) in
         let column : (x * w + d) % w ≡ d = mod-mul-add x w d (omega arith) in
         ap (λ (ns : List ℕ). get_or ns (x * w + d) 0) written
-        ∙ get_or-map-range_with_len entry 0 k (x * w + d) (x * w + d) 0 (omega (arith, all, place_below x v d w (omega arith) (omega arith))) (omega arith)
+        ∙ get_or-map-range_with_len entry 0 k (x * w + d) (x * w + d) 0
+        (omega (arith, all, place_below x v d w (omega arith) (omega arith))) (omega arith)
         ∙ ap₂ f row column;
   }
 
@@ -79,26 +89,49 @@ module _ (f : ℕ → ℕ → ℕ) (v w k : ℕ) (numbers : List ℕ) (all : k �
 pub stalk_number :
     (G : Graph) (c : Written) (r x d size : ℕ) (part : VertexPart) → r ≡ G.rank → part ≡ part_of c x →
     size ≡ stalk_count r part.degrees d → size ≡ stalk_count G.rank ((parts_sheaf G c).degrees x) d
-stalk_number G c r x d size part rank is counted = counted ∙ ap₂ (λ (q : ℕ) (v : VertexPart). stalk_count q v.degrees d) rank is
+stalk_number G c r x d size part rank is counted =
+    counted ∙ ap₂ (λ (q : ℕ) (v : VertexPart). stalk_count q v.degrees d) rank is
 
 -- sizes that agree one by one
-same_sizes : (k n : BlockSizes) → k.columns ≡ n.columns → k.rows ≡ n.rows → k.stalk ≡ n.stalk → k.boundary ≡ n.boundary → k.tuples ≡ n.tuples → k ≡ n
+same_sizes : (k n : BlockSizes) → k.columns ≡ n.columns → k.rows ≡ n.rows → k.stalk ≡ n.stalk →
+    k.boundary ≡ n.boundary → k.tuples ≡ n.tuples → k ≡ n
 same_sizes k n p q r s t =
-    ap₂ (λ (a b : ℕ). let made : BlockSizes = record { columns = a; rows = b; stalk = k.stalk; boundary = k.boundary; tuples = k.tuples } in made) p q
-    ∙ ap₂ (λ (a b : ℕ). let made : BlockSizes = record { columns = n.columns; rows = n.rows; stalk = a; boundary = b; tuples = k.tuples } in made) r s
-    ∙ ap (λ (a : ℕ). let made : BlockSizes = record { columns = n.columns; rows = n.rows; stalk = n.stalk; boundary = n.boundary; tuples = a } in made) t
+    ap₂ (λ (a b : ℕ). let made : BlockSizes = record {
+      columns = a;
+      rows = b;
+      stalk = k.stalk;
+      boundary = k.boundary;
+      tuples = k.tuples;
+    } in made) p q
+    ∙ ap₂ (λ (a b : ℕ). let made : BlockSizes = record {
+      columns = n.columns;
+      rows = n.rows;
+      stalk = a;
+      boundary = b;
+      tuples = k.tuples;
+    } in made) r s
+    ∙ ap (λ (a : ℕ). let made : BlockSizes = record {
+      columns = n.columns;
+      rows = n.rows;
+      stalk = n.stalk;
+      boundary = n.boundary;
+      tuples = a;
+    } in made) t
 
 -- the sizes of a block from the table
-module _ {G : Graph} {m : Method} {c : Written} {t : SizeTable} (of : AreSizesOf G m c t) (top : IsTopVertex G (top_vertex G)) (x d : ℕ) (vertex : x + 1 < vertex_count G) (degree : d ≤ c.degree) where
+module _ {G : Graph} {m : Method} {c : Written} {t : SizeTable} (of : AreSizesOf G m c t)
+    (top : IsTopVertex G (top_vertex G)) (x d : ℕ) (vertex : x + 1 < vertex_count G) (degree : d ≤ c.degree) where
   abbrev F : SheafData
   F = parts_sheaf G c
 
   all_positions : sum_above G x (λ y. size_in t.stalks y d) ≡ position_count G F (is_above G x) d
-  all_positions = sum_above_same G x (λ y. size_in t.stalks y d) (λ y. stalk_count G.rank (F.degrees y) d) (λ y below. of.stalks.numbers y d below degree)
+  all_positions = sum_above_same G x (λ y. size_in t.stalks y d) (λ y. stalk_count G.rank (F.degrees y) d)
+      (λ y below. of.stalks.numbers y d below degree)
 
   all_equations : IsGraph G → sum_above G x (λ y. size_in t.boundaries y d) ≡ equation_count G F (is_above G x) d
   all_equations is =
-      sum_above_same G x (λ y. size_in t.boundaries y d) (λ y. boundary_count G F y d) (λ y below. of.boundaries.numbers y d below degree)
+      sum_above_same G x (λ y. size_in t.boundaries y d) (λ y. boundary_count G F y d)
+      (λ y below. of.boundaries.numbers y d below degree)
       ∙ sym (equation_count_is G F d (is_above G x) is (above_is_closed G is x))
 
   own_stalk : size_in t.stalks x d ≡ stalk_count G.rank (F.degrees x) d
@@ -117,14 +150,18 @@ module _ {G : Graph} {m : Method} {c : Written} {t : SizeTable} (of : AreSizesOf
   pub tuples_there : d * t.tuples.vertices + x < length t.tuples.numbers.items
   tuples_there =
       let n = vertex_count G in
-      let row : d * n + x < (c.degree + 1) * n = place_below d (c.degree + 1) x n (omega (arith, degree)) (omega (arith, vertex)) in
-      subst (λ k. d * k + x < length t.tuples.numbers.items) (sym of.tuples.vertices) (omega (arith, row, of.tuples.numbers.sized))
+      let row : d * n + x < (c.degree + 1) * n =
+      place_below d (c.degree + 1) x n (omega (arith, degree)) (omega (arith, vertex)) in
+      subst (λ k. d * k + x < length t.tuples.numbers.items) (sym of.tuples.vertices)
+      (omega (arith, row, of.tuples.numbers.sized))
 
   -- what the kernel evidence is about, by the method
-  pub spaces_columns : (n : ℕ) → m ≡ Spaces → n ≡ sum_above G x (λ y. size_in t.stalks y d) → n ≡ (matrix_at G m c x d).cols
+  pub spaces_columns : (n : ℕ) → m ≡ Spaces → n ≡ sum_above G x (λ y. size_in t.stalks y d) →
+      n ≡ (matrix_at G m c x d).cols
   spaces_columns n is counted = subst (λ k. n ≡ (matrix_at G k c x d).cols) (sym is) (counted ∙ all_positions)
 
-  pub spaces_rows : (n : ℕ) → IsGraph G → m ≡ Spaces → n ≡ sum_above G x (λ y. size_in t.boundaries y d) → n ≡ (matrix_at G m c x d).rows
+  pub spaces_rows : (n : ℕ) → IsGraph G → m ≡ Spaces → n ≡ sum_above G x (λ y. size_in t.boundaries y d) →
+      n ≡ (matrix_at G m c x d).rows
   spaces_rows n graph is counted = subst (λ k. n ≡ (matrix_at G k c x d).rows) (sym is) (counted ∙ all_equations graph)
 
   pub levels_columns : (n : ℕ) → m ≡ Levels → n ≡ size_in t.stalks x d → n ≡ (matrix_at G m c x d).cols
@@ -138,4 +175,5 @@ module _ {G : Graph} {m : Method} {c : Written} {t : SizeTable} (of : AreSizesOf
       n.stalk ≡ size_in t.stalks x d → n.boundary ≡ size_in t.boundaries x d →
       n.tuples ≡ get_or t.tuples.numbers.items (d * t.tuples.vertices + x) 0 → n ≡ counts_at G m c x d
   block_counts n columns rows stalk boundary tuples =
-      same_sizes n (counts_at G m c x d) columns rows (stalk ∙ own_stalk) (boundary ∙ own_boundary) (tuples ∙ own_tuples)
+      same_sizes n (counts_at G m c x d) columns rows (stalk ∙ own_stalk) (boundary ∙ own_boundary)
+      (tuples ∙ own_tuples)

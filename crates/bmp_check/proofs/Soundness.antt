@@ -34,7 +34,8 @@ use Rattle.bmp_check.proofs.CheckableLemmas.{over_field}
 -- ---- the greatest vertex
 
 -- where none of a list fails, its first comparison passes
-head_passes : (a : Comparison) (cs : List Comparison) → first_failure (a ∷ cs) ≡ None → (a.passes ≡ true) × (first_failure cs ≡ None)
+head_passes : (a : Comparison) (cs : List Comparison) → first_failure (a ∷ cs) ≡ None → (a.passes ≡ true) ×
+    (first_failure cs ≡ None)
 head_passes a cs none = elim (cases_Bool a.passes) [
   | inl passes ↦ (passes, sym (first_passes a cs passes) ∙ none)
   | inr fails ↦ absurd (none-some a.refusal (sym none ∙ first_fails a cs fails))
@@ -45,10 +46,12 @@ one_of_degree_zero [] long first = absurd (omega (arith, long))
 one_of_degree_zero (e ∷ []) long first = ap (λ (k : ℕ). k ∷ []) first
 one_of_degree_zero (e ∷ f ∷ es) long first = absurd (omega (arith, long))
 
-pub top_degrees : (c : Written) → first_failure (top_comparisons c) ≡ None → (part_of c (length c.parts - 1)).degrees ≡ 0 ∷ []
+pub top_degrees : (c : Written) → first_failure (top_comparisons c) ≡ None →
+    (part_of c (length c.parts - 1)).degrees ≡ 0 ∷ []
 top_degrees c none =
     let degrees : List ℕ = (part_of c (length c.parts - 1)).degrees in
-    let first = head_passes (top_comparison c 0 (length degrees) 1) (top_comparison c 1 (get_or degrees 0 0) 0 ∷ []) none in
+    let first = head_passes (top_comparison c 0 (length degrees) 1) (top_comparison c 1 (get_or degrees 0 0) 0 ∷ [])
+    none in
     let second = head_passes (top_comparison c 1 (get_or degrees 0 0) 0) [] first.1 in
     one_of_degree_zero degrees (eqb-true (length degrees) 1 first.0) (eqb-true (get_or degrees 0 0) 0 second.0)
 
@@ -85,33 +88,41 @@ module _ {G : Graph} {c : Written} (base : IsSoundBase G Spaces c) (x d : ℕ) (
   tuples = tuples_over G F x d own.kernel.basis
 
   sections : AreSections G F x d (tuples_in G F d tuples) (length own.kernel.basis)
-  sections = evidence_sections G F x d base.over own.kernel (basis_in_kernel G.prime (equation_matrix G F x d) own.kernel (base.blocks x d block).0)
+  sections = evidence_sections G F x d base.over own.kernel
+      (basis_in_kernel G.prime (equation_matrix G F x d) own.kernel (base.blocks x d block).0)
 
   catches : CatchAll G F x d (tuples_in G F d tuples) (length own.kernel.basis)
   catches =
       evidence_catches G F x d base.over own.kernel
-      (kernel_spans G.prime (equation_matrix G F x d) own.kernel base.over.two (base.fits.blocks x d block).kernel (base.blocks x d block).0)
+      (kernel_spans G.prime (equation_matrix G F x d) own.kernel base.over.two (base.fits.blocks x d block).kernel
+      (base.blocks x d block).0)
 
   block_lifts : IsLifted G F x d
-  block_lifts = passing_covers G F x d base.over base.small tuples own.cover (λ r compared. (base.blocks x d block).1 r (inl compared)) catches
+  block_lifts = passing_covers G F x d base.over base.small tuples own.cover
+      (λ r compared. (base.blocks x d block).1 r (inl compared)) catches
 
   block_reaches : ((k : ℕ) → k < d → IsReached G F x k) → IsReached G F x d
   block_reaches lower =
-      passing_sources G F x d base.over base.small tuples own.cover (λ r compared. (base.blocks x d block).1 r (inr (inl compared))) sections lower
+      passing_sources G F x d base.over base.small tuples own.cover
+      (λ r compared. (base.blocks x d block).1 r (inr (inl compared))) sections lower
 
   block_is_minimal : IsMinimal G F x d
-  block_is_minimal = passing_duals G F x d base.over base.small tuples own.cover (λ r compared. (base.blocks x d block).1 r (inr (inr compared)))
+  block_is_minimal =
+      passing_duals G F x d base.over base.small tuples own.cover
+      (λ r compared. (base.blocks x d block).1 r (inr (inr compared)))
 
 -- by rising degree
 reached_below :
-    {G : Graph} {c : Written} (base : IsSoundBase G Spaces c) (x n d : ℕ) → x + 1 < vertex_count G → d < n → d ≤ c.degree → IsReached G (parts_sheaf G c) x d
+    {G : Graph} {c : Written} (base : IsSoundBase G Spaces c) (x n d : ℕ) → x + 1 < vertex_count G → d < n →
+    d ≤ c.degree → IsReached G (parts_sheaf G c) x d
 reached_below base x zero d vertex before most = absurd (omega arith)
 reached_below base x (suc n) d vertex before most =
     block_reaches base x d (vertex, most) (λ k lower. reached_below base x n k vertex (omega arith) (omega arith))
 
 -- ---- all of them, by the method
 
-is_sound : (m : Method) {G : Graph} {c : Written} → IsSoundBase G m c → IsBradenMacPherson G (parts_sheaf G c) c.degree (top_vertex G)
+is_sound : (m : Method) {G : Graph} {c : Written} → IsSoundBase G m c →
+    IsBradenMacPherson G (parts_sheaf G c) c.degree (top_vertex G)
 is_sound Spaces base = record {
   is_top = base.is_top;
   top_stalk = base.top_stalk;
@@ -129,7 +140,8 @@ is_sound Levels {G = G} {c = c} base =
       covers = λ x d within other most. (base.blocks x d (omega arith, most)).1;
     })
 
-degrees_fit : {G : Graph} {m : Method} {c : Written} → ShapesFit G m c → (x : ℕ) → x < vertex_count G → DegreesFit c.degree (part_of c x).degrees
+degrees_fit : {G : Graph} {m : Method} {c : Written} → ShapesFit G m c → (x : ℕ) → x < vertex_count G →
+    DegreesFit c.degree (part_of c x).degrees
 degrees_fit {G = G} {m = m} {c = c} fits x within = elim (cases_eq x (vertex_count G - 1)) [
   | inl last ↦ subst (λ (y : ℕ). DegreesFit c.degree (part_of c y).degrees) (sym last) fits.top
   | inr other ↦ (fits.vertices x (omega arith)).degrees
@@ -140,9 +152,11 @@ passed_is_braden_macpherson G v c checkable passes = is_sound (method_of v) (bas
 
 pub passed_generators_are_bounded : PassedGeneratorsAreBounded
 passed_generators_are_bounded G v c checkable passes x g within below =
-    All-get_or (λ (e : ℕ). e ≤ c.degree) (part_of c x).degrees g 0 below (degrees_fit (base_of G v c checkable passes).fits x within).most
+    All-get_or (λ (e : ℕ). e ≤ c.degree) (part_of c x).degrees g 0 below
+    (degrees_fit (base_of G v c checkable passes).fits x within).most
 
 pub passed_counts_are_dimensions : PassedCountsAreDimensions
 passed_counts_are_dimensions G v c checkable passes =
     let field : IsOverField G = over_field checkable.on in
-    counts_are_dimensions G (parts_sheaf G c) c.degree (top_vertex G) (omega (arith, field.two)) checkable.on.few_variables (passed_is_braden_macpherson G v c checkable passes)
+    counts_are_dimensions G (parts_sheaf G c) c.degree (top_vertex G) (omega (arith, field.two))
+    checkable.on.few_variables (passed_is_braden_macpherson G v c checkable passes)

@@ -28,9 +28,11 @@ use Rattle.bmp_check.specs.Verdicts.{CountPasses}
 use Rattle.bmp_check.proofs.FormLemmas.{part_formed, top_formed, vectors_below}
 
 -- degrees and lifts that make a stalk break no rule
-pub memory_alone : {F : Type 0} (s : SheafState F) (x : ℕ) (degrees : List ℕ) (lifts : List (List Entry)) → IsStalk s x degrees lifts → (f : SheafFault) → BreaksFirst s x degrees lifts f → f ≡ Memory
+pub memory_alone : {F : Type 0} (s : SheafState F) (x : ℕ) (degrees : List ℕ) (lifts : List (List Entry)) →
+    IsStalk s x degrees lifts → (f : SheafFault) → BreaksFirst s x degrees lifts f → f ≡ Memory
 memory_alone s x degrees lifts stalk (DegreeOrder i) breaks = absurd (breaks.broken (stalk.rising i breaks.below))
-memory_alone s x degrees lifts stalk (DegreeOverBound i) breaks = absurd (breaks.1.broken (stalk.bound i breaks.1.below))
+memory_alone s x degrees lifts stalk (DegreeOverBound i) breaks =
+    absurd (breaks.1.broken (stalk.bound i breaks.1.below))
 memory_alone s x degrees lifts stalk (LiftShape i) breaks = elim breaks.2 [
   | inl many ↦ absurd (many.0 stalk.counted)
   | inr first ↦ absurd (first.1.broken (stalk.fit i first.1.below))
@@ -50,12 +52,15 @@ no_edges_up G is x last =
     (λ e below.
     let rises : lower G e < upper G e = edge_rises G is e below in
     let within : upper G e < vertex_count G = (is.ends e below).1 in
-    cond-false {A = ℕ} (eqb (lower G e) x) 1 0 (ne_eqb (lower G e) x (λ same. omega (arith, same, rises, within, last))))
+    cond-false {A = ℕ} (eqb (lower G e) x) 1 0
+    (ne_eqb (lower G e) x (λ same. omega (arith, same, rises, within, last))))
     ∙ sum_below-zeros (edge_count G)
 
 module _
-    {F : Type 0} (s : SheafState F) (c : Written) {v : ℕ} {m : Method} (checkable : IsCheckable s.graph v c) (counted : CountPasses s.graph c) (fits : ShapesFit s.graph m c)
-    (degree : s.degree ≡ c.degree) (i : ℕ) (stalks : s.stalks ≡ map cert_stalk (take i c.parts)) (more : i < length c.parts) where
+    {F : Type 0} (s : SheafState F) (c : Written) {v : ℕ} {m : Method} (checkable : IsCheckable s.graph v c)
+    (counted : CountPasses s.graph c) (fits : ShapesFit s.graph m c)
+    (degree : s.degree ≡ c.degree) (i : ℕ) (stalks : s.stalks ≡ map cert_stalk (take i c.parts))
+    (more : i < length c.parts) where
   abbrev G : Graph
   G = s.graph
 
@@ -83,18 +88,21 @@ module _
 
   degrees_fit : DegreesFit c.degree part.degrees
   degrees_fit = elim (cases_eq i 0) [
-    | inl top ↦ let same : vertex_count G - 1 ≡ x = omega (arith, vertex, top, counted) in subst (λ (y : ℕ). DegreesFit c.degree (part_of c y).degrees) same fits.top
+    | inl top ↦ let same : vertex_count G - 1 ≡ x = omega (arith, vertex, top, counted) in
+        subst (λ (y : ℕ). DegreesFit c.degree (part_of c y).degrees) same fits.top
     | inr other ↦ (fits.vertices x (omega (arith, vertex, other, counted, more))).degrees
   ]
 
   top_lifts : i ≡ 0 → part.lifts ≡ []
   top_lifts top =
       let same : x ≡ length c.parts - 1 = omega (arith, vertex, top) in
-      ap (λ (y : ℕ). (part_of c y).lifts) same ∙ ap (λ (v : VertexPart). v.lifts) (top_formed (G.prime - 1) c checkable.formed).1
+      ap (λ (y : ℕ). (part_of c y).lifts) same
+      ∙ ap (λ (v : VertexPart). v.lifts) (top_formed (G.prime - 1) c checkable.formed).1
 
   pub values_below : All (λ v. ValuesBelow v G.prime) part.lifts
   values_below = elim (cases_eq i 0) [
-    | inl top ↦ subst (All (λ (v : List Entry). ValuesBelow v G.prime)) (sym (top_lifts top)) (All-nil (λ (v : List Entry). ValuesBelow v G.prime))
+    | inl top ↦ subst (All (λ (v : List Entry). ValuesBelow v G.prime)) (sym (top_lifts top))
+        (All-nil (λ (v : List Entry). ValuesBelow v G.prime))
     | inr other ↦
         let formed = part_formed (G.prime - 1) c checkable.formed x (omega (arith, vertex, other, more)) in
         vectors_below (G.prime - 1) G.prime (part.edges * length part.degrees) refl part.lifts formed.lifts
@@ -124,7 +132,8 @@ module _
         let starts : lower G e ≡ x = range.inside e (omega arith) (omega (arith, place)) in
         let rises : lower G e < upper G e = edge_rises G checkable.on.graph e is_edge in
         let stalk = above_is (upper G e) (omega (arith, rises, starts)) (checkable.on.graph.ends e is_edge).1 in
-        subst (λ (t : Stalk). FitsBelow (get_or part.lifts j []) (stalk_count G.rank t.degrees (get_or part.degrees (j % k) 0))) (sym stalk) (fit.lifts j within).fits
+        subst (λ (t : Stalk). FitsBelow (get_or part.lifts j [])
+        (stalk_count G.rank t.degrees (get_or part.degrees (j % k) 0))) (sym stalk) (fit.lifts j within).fits
   ]
     where
       positive : (m k j : ℕ) → j < m * k → 0 < k
@@ -136,7 +145,8 @@ module _
   is_stalk : IsStalk s x part.degrees part.lifts
   is_stalk = record {
     rising = λ j within k next. degrees_fit.rising k j 0 (omega (arith, next)) within;
-    bound = λ j within. subst (λ d. get_or part.degrees j 0 ≤ d) (sym degree) (All-get_or (λ e. e ≤ c.degree) part.degrees j 0 within degrees_fit.most);
+    bound = λ j within. subst (λ d. get_or part.degrees j 0 ≤ d) (sym degree)
+        (All-get_or (λ e. e ≤ c.degree) part.degrees j 0 within degrees_fit.most);
     counted = counts_lifts;
     fit = lift_fits;
   }
@@ -144,7 +154,8 @@ module _
   -- the part as it is read
   module _ (own : VertexPart) (read : get_or c.parts i no_part ≡ own) where
     is_own : part ≡ own
-    is_own = let place : length c.parts - 1 - x ≡ i = omega (arith, vertex, more) in ap (λ (k : ℕ). get_or c.parts k no_part) place ∙ read
+    is_own = let place : length c.parts - 1 - x ≡ i = omega (arith, vertex, more) in
+        ap (λ (k : ℕ). get_or c.parts k no_part) place ∙ read
 
     pub own_is_stalk : IsStalk s x own.degrees own.lifts
     own_is_stalk = subst (λ (v : VertexPart). IsStalk s x v.degrees v.lifts) is_own is_stalk

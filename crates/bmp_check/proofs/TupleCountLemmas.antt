@@ -42,13 +42,15 @@ counts_more G m c D numbers counts {all} joined of has =
         | inr other ↦
             let below : d * n + x < D * n = place_below d D x n (omega arith) vertex in
             ap (λ (l : List ℕ). get_or l (d * n + x) 0) joined
-            ∙ get_or_append_left numbers counts 0 (d * n + x) (omega (arith, below, has.sized)) ∙ has.each x d vertex (omega arith)
+            ∙ get_or_append_left numbers counts 0 (d * n + x) (omega (arith, below, has.sized))
+            ∙ has.each x d vertex (omega arith)
       ];
     }
 
 -- a vertex but the greatest has a block
 pub has_its_block :
-    {most v : ℕ} (c : Written) → HavePartLines v most c.degree c.parts → (d : ℕ) → d ≤ c.degree → (x : ℕ) → x + 1 < length c.parts →
+    {most v : ℕ} (c : Written) → HavePartLines v most c.degree c.parts → (d : ℕ) → d ≤ c.degree →
+    (x : ℕ) → x + 1 < length c.parts →
     (ltb x (length c.parts) && ltb d (length (part_of c x).blocks)) ≡ true
 has_its_block {most = most} c formed d degree x vertex =
     let blocks = (part_formed most c formed x vertex).blocks.0 in
@@ -56,8 +58,10 @@ has_its_block {most = most} c formed d degree x vertex =
     (lt-ltb d (length (part_of c x).blocks) (omega (arith, blocks)))
 
 -- a shorter vertex isn't the greatest
-pub not_greatest : (G : Graph) (x : ℕ) → x < vertex_count G → length_at G x < length_at G (vertex_count G - 1) → x + 1 < vertex_count G
+pub not_greatest : (G : Graph) (x : ℕ) → x < vertex_count G → length_at G x < length_at G (vertex_count G - 1) →
+    x + 1 < vertex_count G
 not_greatest G x vertex shorter = elim (cases_eq x (vertex_count G - 1)) [
-  | inl last ↦ let same : length_at G x ≡ length_at G (vertex_count G - 1) = ap (length_at G) last in absurd (omega (arith, same, shorter))
+  | inl last ↦ let same : length_at G x ≡ length_at G (vertex_count G - 1) = ap (length_at G) last in
+      absurd (omega (arith, same, shorter))
   | inr other ↦ omega arith
 ]

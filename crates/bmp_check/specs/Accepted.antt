@@ -1,9 +1,11 @@
 -- What can be checked, and what passing gives. In the order to read:
---   IsCheckableGraph G  G is a moment graph over a field of the list, of rank 1 to 6 and at most 4,096 vertices, whose last vertex
---                       alone is the longest
---   IsCheckable G v c   the parts of c have lines of the version v, which is 1, 2 or 3, on such a graph, up to a degree of at most 6
+--   IsCheckableGraph G  G is a moment graph over a field of the list, of rank 1 to 6 and at most 4,096 vertices, whose
+--                       last vertex alone is the longest
+--   IsCheckable G v c   the parts of c have lines of the version v, which is 1, 2 or 3, on such a graph, up to a degree
+--                       of at most 6
 --   PassedIsBradenMacPherson
---                       where no comparison fails, the sheaf that is written is a Braden-MacPherson sheaf up to the degree bound
+--                       where no comparison fails, the sheaf that is written is a Braden-MacPherson sheaf up to the
+--                       degree bound
 --   PassedGeneratorsAreBounded
 --                       each of its generators has a degree of at most that bound
 --   PassedCountsAreDimensions
@@ -43,13 +45,16 @@ pub record IsCheckable (G : Graph) (v : ℕ) (c : Written) : Type 0 where
   pub formed : HavePartLines v (G.prime - 1) c.degree c.parts
 
 abbrev pub PassedIsBradenMacPherson : Type 0
-PassedIsBradenMacPherson = (G : Graph) (v : ℕ) (c : Written) → IsCheckable G v c → Passes G v c → IsBradenMacPherson G (parts_sheaf G c) c.degree (top_vertex G)
+PassedIsBradenMacPherson = (G : Graph) (v : ℕ) (c : Written) → IsCheckable G v c → Passes G v c →
+    IsBradenMacPherson G (parts_sheaf G c) c.degree (top_vertex G)
 
 abbrev pub PassedGeneratorsAreBounded : Type 0
-PassedGeneratorsAreBounded = (G : Graph) (v : ℕ) (c : Written) → IsCheckable G v c → Passes G v c → HasGeneratorsUpTo G (parts_sheaf G c) c.degree
+PassedGeneratorsAreBounded = (G : Graph) (v : ℕ) (c : Written) → IsCheckable G v c → Passes G v c →
+    HasGeneratorsUpTo G (parts_sheaf G c) c.degree
 
 abbrev pub PassedCountsAreDimensions : Type 0
-PassedCountsAreDimensions = (G : Graph) (v : ℕ) (c : Written) → IsCheckable G v c → Passes G v c → CountsAreDimensions G (parts_sheaf G c) c.degree (top_vertex G)
+PassedCountsAreDimensions = (G : Graph) (v : ℕ) (c : Written) → IsCheckable G v c → Passes G v c →
+    CountsAreDimensions G (parts_sheaf G c) c.degree (top_vertex G)
 
 abbrev pub NoneFailsBesidePasses : Type 0
 NoneFailsBesidePasses = (G : Graph) (v : ℕ) (c : Written) (r : Refusal) → Passes G v c → IsFirstRefusal G v c r → ⊥

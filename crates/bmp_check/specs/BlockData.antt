@@ -2,9 +2,10 @@
 --   no_block, block_of c x d   the block that is written
 --   top_vertex G               the greatest vertex
 --   family_at G c x d          the family of sections of degree d over the vertices longer than x
---   matrix_at G m c x d        the rows that the kernel evidence is about: the edge equations over the vertices above x, or the
---                              boundary map at x
---   tuples_at G m c x d        the sections that the cover evidence is about: those of the kernel evidence itself, or the family
+--   matrix_at G m c x d        the rows that the kernel evidence is about: the edge equations over the vertices above
+--                              x, or the boundary map at x
+--   tuples_at G m c x d        the sections that the cover evidence is about: those of the kernel evidence itself, or
+--                              the family
 use Rattle.std.specs.Prelude.{ℕ, suc, ◌-◌, [], slice_index_or}
 use Rattle.bmp_math.specs.Matrices.{Matrix}
 use Rattle.bmp_graph.specs.Graph.{Graph, vertex_count, length_at}
@@ -19,7 +20,10 @@ use Rattle.bmp_check.specs.declared.method.Method.TheVariants.{Spaces, Levels}
 use Rattle.bmp_check.specs.PartsSheaf.{parts_sheaf}
 
 abbrev pub no_block : DegreeBlock
-no_block = record { kernel = record { pivots = []; basis = []; rows = [] }; cover = record { covers = []; sources = []; duals = [] } }
+no_block = record {
+  kernel = record { pivots = []; basis = []; rows = [] };
+  cover = record { covers = []; sources = []; duals = [] };
+}
 
 abbrev pub block_of : Written → ℕ → ℕ → DegreeBlock
 block_of c x d = slice_index_or (part_of c x).blocks d no_block

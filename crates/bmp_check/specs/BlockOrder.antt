@@ -1,10 +1,11 @@
--- The order of blocks by number, for n vertices and degrees up to D: by falling vertex, from n - 2 on, and then by rising degree. In
--- the order to read:
+-- The order of blocks by number, for n vertices and degrees up to D: by falling vertex, from n - 2 on, and then by
+-- rising degree. In the order to read:
 --   block_count n D       how many blocks there are
 --   block_vertex n D i    the vertex of the block number i
 --   block_degree D i      its degree
 --   HasNumber n D x d i   the block of x and d has the number i
---   AreNumbered n D       each block has a number, each number is that of a block, and numbers rise in the order of blocks
+--   AreNumbered n D       each block has a number, each number is that of a block, and numbers rise in the order of
+--                         blocks
 --   BlocksAreNumbered     that is so for all n and D
 use Rattle.std.specs.Prelude.{◌≡◌, ℕ, ◌+◌, ◌-◌, ◌*◌, ◌/◌, ◌%◌, ◌<◌, ◌≤◌, ◌↔◌}
 use Rattle.bmp_check.specs.Verdicts.{BlockIsBefore}

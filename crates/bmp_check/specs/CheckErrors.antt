@@ -1,5 +1,6 @@
 -- What a check that doesn't accept answers.
---   IsRefusedBy P e    the error is a refusal of which P holds, with two numbers that differ; want of memory says nothing
+--   IsRefusedBy P e    the error is a refusal of which P holds, with two numbers that differ; want of memory says
+--                      nothing
 use Rattle.std.specs.Prelude.{◌≢◌}
 use Rattle.bmp_check.specs.declared.refusal.Refusal.{Refusal}
 use Rattle.bmp_check.specs.declared.refusal.CheckError.{CheckError}

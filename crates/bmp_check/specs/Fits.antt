@@ -2,8 +2,8 @@
 --   IsVectorIn p n v       places that rise and are below n, and numbers below p other than 0
 --   DegreesFit D es        degrees that never fall, at most D
 --   VertexFits G c x       a part whose lifts are in the stalks at the upper ends of its edges
---   EvidenceIn p n t b     a block whose evidence is in the numbers n of rows, columns, sections and coordinates, with a source and a
---                          dual form for each of t generators
+--   EvidenceIn p n t b     a block whose evidence is in the numbers n of rows, columns, sections and coordinates, with
+--                          a source and a dual form for each of t generators
 --   BlockFits G m c x d    the block of x and d is one
 --   ShapesFit G m c        all of this, at each vertex and degree
 --   ShapeGivesFits         so it is where all sizes pass
@@ -42,7 +42,8 @@ pub record VertexFits (G : Graph) (c : Written) (x : ℕ) : Type 0 where
   pub lifts : (i : ℕ) → i < length (part_of c x).lifts →
       let k = length (part_of c x).degrees in
       IsVectorIn G.prime
-      (stalk_count G.rank (part_of c (upper G (first_edge G x + i / k))).degrees (slice_index (part_of c x).degrees (i % k)))
+      (stalk_count G.rank (part_of c (upper G (first_edge G x + i / k))).degrees
+      (slice_index (part_of c x).degrees (i % k)))
       (slice_index_or (part_of c x).lifts i [])
 
 pub record EvidenceIn (p : ℕ) (n : BlockSizes) (t : ℕ) (b : DegreeBlock) : Type 0 where

@@ -1,5 +1,6 @@
 -- The sheaf that the parts of the vertices write down.
---   parts_sheaf G c     on the graph G: the generators of each vertex in their degrees, and a lift of each for each edge up
+--   parts_sheaf G c     on the graph G: the generators of each vertex in their degrees, and a lift of each for each
+--                       edge up
 use Rattle.bmp_graph.specs.Graph.{Graph}
 use Rattle.bmp_sheaf.specs.Sheaves.{SheafData}
 use Rattle.bmp_sheaf.specs.Written.{written_sheaf}

@@ -11,5 +11,6 @@ named_text name n = 32 ∷ name ++ (32 ∷ decimal n)
 
 abbrev pub refusal_text : Refusal → List ℕ
 refusal_text r = codes "refused" ++ (named_text (codes "vertex") r.vertex ++ (named_text (codes "degree") r.degree
-    ++ (codes " kind " ++ (kind_name r.kind ++ (named_text (codes "index") r.index ++ (named_text (codes "place") r.place
+    ++ (codes " kind " ++
+    (kind_name r.kind ++ (named_text (codes "index") r.index ++ (named_text (codes "place") r.place
     ++ (named_text (codes "left") r.left ++ (named_text (codes "right") r.right ++ (10 ∷ [])))))))))

@@ -1,10 +1,12 @@
 -- Certificates whose sizes all fit, with the sheaf that they write down, in memory. In the order to read:
 --   cert_stalk part         the degrees and the lifts of a part
 --   IsSheafOf G c s         the sheaf in memory is the one that c writes down on G, up to the degree of its job
---   IsShaped G v c t s      c can be checked, the number of vertices and all sizes pass, t is its table of sizes, and s its sheaf
---   HasWidth G m c n        n is no less than the largest size of each block, and than each number of coordinates of a stalk and of a
---                           boundary
---   IsRoomFor G m c scratch the scratch has numbers of such a width, and by whole spaces room for the equations of each block
+--   IsShaped G v c t s      c can be checked, the number of vertices and all sizes pass, t is its table of sizes, and s
+--                           its sheaf
+--   HasWidth G m c n        n is no less than the largest size of each block, and than each number of coordinates of a
+--                           stalk and of a boundary
+--   IsRoomFor G m c scratch the scratch has numbers of such a width, and by whole spaces room for the equations of each
+--   block
 use Rattle.std.specs.Prelude.{◌≡◌, ℕ, ◌<◌, ◌≤◌, length, map}
 use Rattle.bmp_graph.specs.Graph.{Graph, vertex_count}
 use Rattle.bmp_sheaf.specs.Coordinates.{stalk_count, boundary_count}
@@ -46,4 +48,5 @@ pub record HasWidth (G : Graph) (m : Method) (c : Written) (n : ℕ) : Type 0 wh
 pub record IsRoomFor (G : Graph) (m : Method) (c : Written) (scratch : BlockScratch) : Type 0 where
   pub width : HasWidth G m c (length scratch.numbers.first)
   pub vertices : m ≡ Spaces → vertex_count G ≤ length scratch.index.starts.items
-  pub equations : m ≡ Spaces → (x d : ℕ) → HasBlock G c x d → (counts_at G m c x d).rows ≤ length scratch.index.places.items
+  pub equations : m ≡ Spaces → (x d : ℕ) → HasBlock G c x d →
+      (counts_at G m c x d).rows ≤ length scratch.index.places.items

@@ -7,7 +7,8 @@
 --   sheaf_in s     the sheaf
 --   version_in s, method_at s
 --                  the version of its evidence, and the method
---   IsWhole s      it can be checked, the number of its vertices and all sizes pass, and the table and the sheaf are its own
+--   IsWhole s      it can be checked, the number of its vertices and all sizes pass, and the table and the sheaf are
+--                  its own
 use Rattle.std.specs.Prelude.{ℕ}
 use Rattle.bmp_field.specs.declared.prime.PrimeField.{PrimeField}
 use Rattle.bmp_graph.specs.Graph.{Graph}

@@ -1,8 +1,9 @@
 -- The sizes of a certificate's sheaf. In the order to read:
 --   sum_above G x f           the sum of f y over the vertices y above x
---   AreSizesOf G m c t        t has the numbers of stalk and of boundary coordinates of the sheaf that c writes down, and of the
---                             sections that the blocks speak of
---   IsReady G v c t           c has lines of version v and the vertices of G, its last alone the longest, and t is its table
+--   AreSizesOf G m c t        t has the numbers of stalk and of boundary coordinates of the sheaf that c writes down,
+--                             and of the sections that the blocks speak of
+--   IsReady G v c t           c has lines of version v and the vertices of G, its last alone the longest, and t is its
+--                             table
 use Rattle.std.specs.Prelude.{◌≡◌, ℕ, ◌-◌, ◌≤◌, if◌then◌else◌, length}
 use Rattle.bmp_math.specs.Sums.{sum_below}
 use Rattle.bmp_graph.specs.Graph.{Graph, vertex_count}

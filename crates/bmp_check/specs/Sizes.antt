@@ -1,11 +1,11 @@
--- The sizes that are compared before any number is, kind Shape. At each vertex but the greatest, and each degree, they stand in one
--- list, along which the indices count. In the order to read:
+-- The sizes that are compared before any number is, kind Shape. At each vertex but the greatest, and each degree, they
+-- stand in one list, along which the indices count. In the order to read:
 --   Size, is, at_most             a number of the text and the one that it has to be, or not to pass
 --   need, need_of_places          the fewest places in which a vector, or a list of places, fits
 --   lift_sizes G c x              each lift fits the stalk at the upper end, in its generator's degree
 --   vertex_sizes G c x            the number of edges, and the lifts
---   counts_at G m c x d           how many columns and rows the kernel evidence at x and d is about, how many stalk and boundary
---                                 coordinates there are, and how many sections the cover evidence is about
+--   counts_at G m c x d           how many columns and rows the kernel evidence at x and d is about, how many stalk and
+--                                 boundary coordinates there are, and how many sections the cover evidence is about
 --   largest n, limit              the largest of these but the last, and the most that it may be
 --   pivot_sizes n e               the pivots of kernel evidence where these are n
 --   kernel_sizes n e              its vectors
@@ -63,7 +63,8 @@ module _ (G : Graph) (c : Written) (x : ℕ) where
   lift_size i =
       let degrees = (part_of c x).degrees in
       at_most (need (slice_index_or (part_of c x).lifts i []))
-      (stalk_count G.rank (part_of c (upper G (first_edge G x + i / length degrees))).degrees (slice_index degrees (i % length degrees)))
+      (stalk_count G.rank (part_of c (upper G (first_edge G x + i / length degrees))).degrees
+      (slice_index degrees (i % length degrees)))
 
   abbrev pub vertex_sizes : List Size
   vertex_sizes = is (part_of c x).edges (up_count G x) ∷ listed lift_size (length (part_of c x).lifts)
@@ -102,7 +103,8 @@ last_size n = at_most (largest n) limit ∷ []
 
 -- by whole spaces there are as many covers as sections by the grammar; by levels their number is compared first
 abbrev pub sizes_of_block : Method → BlockSizes → DegreeBlock → List Size
-sizes_of_block Spaces n b = pivot_sizes n b.kernel ++ (kernel_sizes n b.kernel ++ (cover_sizes n b.cover ++ last_size n))
+sizes_of_block Spaces n b =
+    pivot_sizes n b.kernel ++ (kernel_sizes n b.kernel ++ (cover_sizes n b.cover ++ last_size n))
 sizes_of_block Levels n b =
     (is (length b.cover.covers) n.tuples ∷ [])
     ++ (pivot_sizes n b.kernel ++ (cover_sizes n b.cover ++ (kernel_sizes n b.kernel ++ last_size n)))

@@ -1,6 +1,6 @@
 -- How many sections the cover evidence of each block is about, from the text. In the order to read:
---   tuple_count G m c x d         those of the block's kernel evidence by whole spaces; by levels one for each monomial, and one for each
---                                 basis vector of a longer vertex but the greatest
+--   tuple_count G m c x d         those of the block's kernel evidence by whole spaces; by levels one for each
+--                                 monomial, and one for each basis vector of a longer vertex but the greatest
 --   CountsDegree G m c d ns       the list has these numbers of degree d, by vertex
 --   HasTupleCounts G m c D ns     the list has those of the degrees below D, one behind the other
 --   AreTupleCounts G m c t        t has those of all degrees
@@ -24,7 +24,8 @@ module _ (G : Graph) (m : Method) (c : Written) where
 
   pub record HasTupleCounts (D : ℕ) (numbers : List ℕ) : Type 0 where
     pub sized : length numbers ≡ D * vertex_count G
-    pub each : (x d : ℕ) → x < vertex_count G → d < D → slice_index numbers (d * vertex_count G + x) ≡ tuple_count G m c x d
+    pub each : (x d : ℕ) → x < vertex_count G → d < D → slice_index numbers (d * vertex_count G + x)
+        ≡ tuple_count G m c x d
 
   pub record AreTupleCounts (t : TupleCounts) : Type 0 where
     pub vertices : t.vertices ≡ vertex_count G

@@ -1,9 +1,11 @@
 -- The verdict on what is written of a graph G: the first comparison that fails, or none. In the order to read:
 --   count_comparison G c          the number of vertices of the text with the graph's; kind Shape, index 0
---   top_comparisons c             the number of generators of the greatest vertex with 1, and then the degree of the first with 0
+--   top_comparisons c             the number of generators of the greatest vertex with 1, and then the degree of the
+--                                 first with 0
 --   HasBlock G c x d              x is a vertex but the greatest, and d a degree up to the bound
 --   BlockIsBefore x d y e         blocks go by falling vertex and then by rising degree
---   kernel_refusal m c x d r      the refusal of a comparison of kernel evidence: kinds Section and Row by whole spaces, Kernel by levels
+--   kernel_refusal m c x d r      the refusal of a comparison of kernel evidence: kinds Section and Row by whole
+--                                 spaces, Kernel by levels
 --   cover_refusal x d r           that of a comparison of cover evidence: kinds Cover, Source and Dual
 --   KernelComparesAt G m c x d    the comparisons of the kernel evidence of a block
 --   CoverComparesAt G m c x d     those of its cover evidence
@@ -11,7 +13,8 @@
 --   IsBlockRefusal G m c x d r    the first that fails, in the order of the kinds' numbers
 --   ShapePassesAt                 no size of a vertex and degree fails
 --   Passes G v c                  no comparison fails at all, in evidence of version v
---   IsFirstRefusal G v c r        r is the first that fails: the number of vertices, then the shapes of all blocks, then the top, then the blocks
+--   IsFirstRefusal G v c r        r is the first that fails: the number of vertices, then the shapes of all blocks,
+--                                 then the top, then the blocks
 use Rattle.std.specs.Prelude.{◌≡◌, ℕ, ◌+◌, ◌-◌, ◌<◌, ◌≤◌, ◌⊎◌, nat_lt, if◌then◌else◌, List, [], ◌∷◌, Some, None, length, slice_index}
 use Rattle.bmp_graph.specs.Graph.{Graph, vertex_count}
 use Rattle.bmp_linear.specs.declared.fault.RowFault.{RowFault}
@@ -84,7 +87,8 @@ kernel_refusal Levels c x d r = record {
 }
 
 abbrev pub cover_refusal : ℕ → ℕ → CoverFault → Refusal
-cover_refusal x d r = record { vertex = x; degree = d; kind = r.kind; index = r.index; place = r.place; left = r.left; right = r.right }
+cover_refusal x d r =
+    record { vertex = x; degree = d; kind = r.kind; index = r.index; place = r.place; left = r.left; right = r.right }
 
 module _ (G : Graph) (m : Method) (c : Written) (x d : ℕ) where
   abbrev pub KernelComparesAt : RowFault → Type 0

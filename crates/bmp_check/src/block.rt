@@ -20,8 +20,8 @@ use bmp_linear::Scratch;
 use bmp_sections::{Equations, Tuples};
 use bmp_sheaf::BoundaryRows;
 
-/// Makes the comparisons of a block by whole spaces: of kinds Section and Row with the edge equations over the vertices above its
-/// vertex, and then of kinds Cover, Source and Dual with the sections of its own kernel evidence.
+/// Makes the comparisons of a block by whole spaces: of kinds Section and Row with the edge equations over the vertices
+/// above its vertex, and then of kinds Cover, Source and Dual with the sections of its own kernel evidence.
 fn check_by_spaces(s: &Shaped, x: u32, d: u32, scratch: &mut BlockScratch) -> Result<(), Refusal>
     requires whole { IsWhole s.now }
     requires method { method_at s.now ≡ Spaces }
@@ -41,9 +41,9 @@ fn check_by_spaces(s: &Shaped, x: u32, d: u32, scratch: &mut BlockScratch) -> Re
     check_cover_at(s, x, d, &tuples, &mut scratch.numbers)
 }
 
-/// Makes the comparisons of a block by levels: of kinds Cover, Source and Dual with the members of the family over the longer
-/// vertices, which are the first of those of a family over all vertices; and then of kind Kernel with the boundary map at its
-/// vertex.
+/// Makes the comparisons of a block by levels: of kinds Cover, Source and Dual with the members of the family over the
+/// longer vertices, which are the first of those of a family over all vertices; and then of kind Kernel with the
+/// boundary map at its vertex.
 fn check_by_levels(
     s: &Shaped,
     family: &Family,
@@ -69,16 +69,18 @@ fn check_by_levels(
     check_kernel_at(s, x, d, &boundary, numbers)
 }
 
-/// Makes the comparisons of the block number `i`, kind after kind. A refusal is the first that fails. Takes no memory, and whatever
-/// the scratch holds before, the answer is the same.
+/// Makes the comparisons of the block number `i`, kind after kind. A refusal is the first that fails. Takes no memory,
+/// and whatever the scratch holds before, the answer is the same.
 pub fn check_block(s: &Setting, i: u32, scratch: &mut BlockScratch) -> Result<(), Refusal>
     requires set { IsSet s.now }
     requires block { HasNumbered (shaped_in s.now) i }
-    requires room { let shaped = shaped_in s.now in IsRoomFor (graph_in shaped) (method_at shaped) (cert_in shaped) scratch.old }
+    requires room { let shaped = shaped_in s.now in
+        IsRoomFor (graph_in shaped) (method_at shaped) (cert_in shaped) scratch.old }
     ensures ok { OnOk result (PassesAt (shaped_in s.now) i) }
     ensures first { IfErr result (IsRefusalAt (shaped_in s.now) i) }
     ensures differ { IfErr result (λ r. r.left ≢ r.right) }
-    ensures room { let shaped = shaped_in s.now in IsRoomFor (graph_in shaped) (method_at shaped) (cert_in shaped) scratch.new }
+    ensures room { let shaped = shaped_in s.now in
+        IsRoomFor (graph_in shaped) (method_at shaped) (cert_in shaped) scratch.new }
 {
     let shaped = s.shaped();
     let (x, d) = block_at(shaped.graph().vertices(), shaped.given().degree, i);

@@ -21,10 +21,11 @@ use bmp_field::PrimeField;
 use bmp_linear::{RowFault, Rows, Scratch, check_kernel};
 use bmp_sections::Sections;
 
-/// The refusal of a comparison of kernel evidence with so many basis vectors. By whole spaces these are sections, which come
-/// before the combinations of the equations.
+/// The refusal of a comparison of kernel evidence with so many basis vectors. By whole spaces these are sections, which
+/// come before the combinations of the equations.
 fn kernel_refusal(method: Method, x: u32, d: u32, sections: u64, fault: RowFault) -> Refusal
-    ensures { (c : Written) → sections ≡ length (block_of c x d).kernel.basis → result ≡ kernel_refusal method c x d fault }
+    ensures { (c : Written) → sections ≡ length (block_of c x d).kernel.basis →
+        result ≡ kernel_refusal method c x d fault }
 {
     let (kind, index) = match method {
         Method::Spaces if fault.index < sections => (Kind::Section, fault.index),
@@ -57,7 +58,8 @@ fn cover_refusal(x: u32, d: u32, fault: CoverFault) -> Refusal
     }
 }
 
-/// Makes the comparisons of the kernel evidence of a block with the rows that it is about. A refusal is the first that fails.
+/// Makes the comparisons of the kernel evidence of a block with the rows that it is about. A refusal is the first that
+/// fails.
 pub(crate) fn check_kernel_at<A: Rows<PrimeField>>(
     s: &Shaped,
     x: u32,
@@ -88,8 +90,8 @@ pub(crate) fn check_kernel_at<A: Rows<PrimeField>>(
     }
 }
 
-/// Makes the comparisons of the cover evidence of a block with the sections that it is about: with tuples of which it speaks as
-/// it does of these. A refusal is the first that fails.
+/// Makes the comparisons of the cover evidence of a block with the sections that it is about: with tuples of which it
+/// speaks as it does of these. A refusal is the first that fails.
 pub(crate) fn check_cover_at<T: Sections>(
     s: &Shaped,
     x: u32,
@@ -100,7 +102,8 @@ pub(crate) fn check_cover_at<T: Sections>(
     requires whole { IsWhole s.now }
     requires block { HasBlock (graph_in s.now) (cert_in s.now) x d }
     requires tuples { HasTuples (sheaf_in s.now) x d (T.list tuples.now) }
-    requires count { (T.list tuples.now).count ≡ (tuples_at (graph_in s.now) (method_at s.now) (cert_in s.now) x d).count }
+    requires count { (T.list tuples.now).count
+        ≡ (tuples_at (graph_in s.now) (method_at s.now) (cert_in s.now) x d).count }
     requires same { let G = graph_in s.now in let c = cert_in s.now in
         (r : CoverFault) → CoverCompares G (parts_sheaf G c) x d (T.list tuples.now) (block_of c x d).cover r
         ↔ CoverComparesAt G (method_at s.now) c x d r }

@@ -19,8 +19,8 @@ pub fn accepted_is_checkable()
     ensures { AcceptedIsCheckable }
 {}
 
-/// Where no comparison of a certificate fails, its sheaf is a Braden-MacPherson sheaf of the moment graph of its job, up to the
-/// degree of the job (Braden-MacPherson 2001; Fiebig-Williamson).
+/// Where no comparison of a certificate fails, its sheaf is a Braden-MacPherson sheaf of the moment graph of its job,
+/// up to the degree of the job (Braden-MacPherson 2001; Fiebig-Williamson).
 pub fn passed_is_braden_macpherson()
     ensures { PassedIsBradenMacPherson }
 {}

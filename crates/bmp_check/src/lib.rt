@@ -5,8 +5,8 @@
 //! ([`check_shape`]), by a table that is made once ([`SizeTable`]); then the greatest vertex ([`check_top`]).
 //! Blocks go by falling vertex and then by rising degree ([`block_at`]), each by [`check_block`]. [`check`] does all.
 //!
-//! Evidence is by whole spaces of sections or by levels ([`Method`]). What it is about differs (`specs/BlockData`), and with it
-//! the sizes, the order of the kinds and the refusals of kernel evidence; all else is one.
+//! Evidence is by whole spaces of sections or by levels ([`Method`]). What it is about differs (`specs/BlockData`), and
+//! with it the sizes, the order of the kinds and the refusals of kernel evidence; all else is one.
 #![tactic(auto)]
 
 mod block;

@@ -16,8 +16,8 @@ use bmp_linear::Scratch;
 use bmp_sections::SectionIndex;
 use std::alloc::{AllocError, Global};
 
-/// Room for the check of any block of a certificate: where its positions and equations stand by whole spaces, and two rows of
-/// numbers.
+/// Room for the check of any block of a certificate: where its positions and equations stand by whole spaces, and two
+/// rows of numbers.
 #[derive(Debug, Drop)]
 pub struct BlockScratch {
     pub index: SectionIndex,
@@ -67,7 +67,8 @@ fn coordinate_room(s: &Shaped) -> u64
 
 /// Room for the places of the positions and of so many equations, by whole spaces.
 fn index_for(alloc: Global, s: &Shaped, equations: u64) -> Result<SectionIndex, AllocError>
-    ensures vertices { IfOk result (λ index. method_at s.now ≡ Spaces → vertex_count (graph_in s.now) ≤ length index.starts.items) }
+    ensures vertices { IfOk result (λ index. method_at s.now ≡ Spaces →
+        vertex_count (graph_in s.now) ≤ length index.starts.items) }
     ensures equations { IfOk result (λ index. method_at s.now ≡ Spaces → equations ≤ length index.places.items) }
 {
     match s.given().method() {
@@ -76,7 +77,8 @@ fn index_for(alloc: Global, s: &Shaped, equations: u64) -> Result<SectionIndex, 
     }
 }
 
-/// What any block needs: as many numbers as the largest of all sizes, and by whole spaces as many places as the most equations.
+/// What any block needs: as many numbers as the largest of all sizes, and by whole spaces as many places as the most
+/// equations.
 pub fn scratch_for(alloc: Global, s: &Shaped) -> Result<BlockScratch, AllocError>
     requires { IsWhole s.now }
     ensures { IfOk result (IsRoomFor (graph_in s.now) (method_at s.now) (cert_in s.now)) }

@@ -11,8 +11,8 @@ use crate::shaped::Shaped;
 use bmp_levels::Family;
 use std::alloc::{AllocError, Global};
 
-/// Parts whose sizes all pass, and with evidence by levels the families that it is about: for each degree one over all vertices,
-/// whose first members are the family of each level. All blocks read it, and nothing changes it.
+/// Parts whose sizes all pass, and with evidence by levels the families that it is about: for each degree one over all
+/// vertices, whose first members are the family of each level. All blocks read it, and nothing changes it.
 #[derive(Drop)]
 pub struct Setting<'a> {
     pub(crate) shaped: Shaped<'a>,
@@ -24,7 +24,8 @@ fn families_of(alloc: Global, s: &Shaped) -> Result<Vec<Family>, AllocError>
     requires whole { IsWhole s.now }
     requires levels { method_at s.now ≡ Levels }
     requires top { TopPasses (graph_in s.now) (cert_in s.now) }
-    ensures { IfOk result (λ families. AreFamilies (graph_in s.now) (cert_in s.now) ((cert_in s.now).degree + 1) families.items) }
+    ensures { IfOk result
+        (λ families. AreFamilies (graph_in s.now) (cert_in s.now) ((cert_in s.now).degree + 1) families.items) }
 {
     let given = *s.given();
     let mut families = Vec::new(alloc);

@@ -22,7 +22,8 @@ use bmp_graph::MomentGraph;
 
 /// Compares the number of vertices of the text with the graph's. Takes no memory.
 pub fn check_count(graph: &MomentGraph, c: &Given) -> Result<(), Refusal>
-    ensures first { MatchResult result (λ _. CountPasses graph.now (written_in c.now)) (IsCountRefusal graph.now (written_in c.now)) }
+    ensures first { MatchResult result (λ _. CountPasses graph.now (written_in c.now))
+        (IsCountRefusal graph.now (written_in c.now)) }
     ensures differ { IfErr result (λ r. r.left ≢ r.right) }
 {
     let left = u64::from(c.parts.len());
@@ -75,7 +76,8 @@ pub fn check_shape(graph: &MomentGraph, c: &Given, table: &SizeTable) -> Result<
     requires top { IsTopVertex graph.now (top_vertex graph.now) }
     requires degree { c.now.degree ≤ 6 }
     requires table { AreSizesOf graph.now (method_in c.now) (written_in c.now) table.now }
-    ensures first { MatchResult result (λ _. ShapePasses graph.now (method_in c.now) (written_in c.now)) (IsShapeRefusal graph.now (method_in c.now) (written_in c.now)) }
+    ensures first { MatchResult result (λ _. ShapePasses graph.now (method_in c.now) (written_in c.now))
+        (IsShapeRefusal graph.now (method_in c.now) (written_in c.now)) }
     ensures differ { IfErr result (λ r. r.left ≢ r.right) }
 {
     let vertices = graph.vertices();

@@ -17,8 +17,8 @@ use crate::tuple_counts::TupleCounts;
 use bmp_graph::MomentGraph;
 use std::alloc::{AllocError, Global};
 
-/// How many coordinates the stalk and the boundary of each vertex have, in each degree, and how many sections the cover evidence
-/// of its block is about.
+/// How many coordinates the stalk and the boundary of each vertex have, in each degree, and how many sections the cover
+/// evidence of its block is about.
 #[derive(Debug, Drop)]
 pub struct SizeTable {
     pub stalks: SizeRows,
@@ -26,9 +26,9 @@ pub struct SizeTable {
     pub tuples: TupleCounts,
 }
 
-/// The sizes of a block. Its kernel evidence is about so many columns and rows: by whole spaces these are the positions of a
-/// tuple over the vertices above and the edge equations there, by levels the coordinates of the stalk and of the boundary. Its
-/// cover evidence is about so many sections.
+/// The sizes of a block. Its kernel evidence is about so many columns and rows: by whole spaces these are the positions
+/// of a tuple over the vertices above and the edge equations there, by levels the coordinates of the stalk and of the
+/// boundary. Its cover evidence is about so many sections.
 #[derive(Clone, Copy, Debug, PartialEq, Eq)]
 pub struct BlockSizes {
     pub columns: u64,

@@ -30,7 +30,8 @@ use std::thread::Threads;
 /// Checks the blocks in their order, up to the first that is refused.
 fn check_blocks(s: &Setting, scratch: &mut BlockScratch) -> Result<(), Refusal>
     requires set { IsSet s.now }
-    requires room { let shaped = shaped_in s.now in IsRoomFor (graph_in shaped) (method_at shaped) (cert_in shaped) scratch.old }
+    requires room { let shaped = shaped_in s.now in
+        IsRoomFor (graph_in shaped) (method_at shaped) (cert_in shaped) scratch.old }
     ensures ok { let shaped = shaped_in s.now in
         OnOk result (BlocksPass (graph_in shaped) (method_at shaped) (cert_in shaped)) }
     ensures first { let shaped = shaped_in s.now in
@@ -45,10 +46,11 @@ fn check_blocks(s: &Setting, scratch: &mut BlockScratch) -> Result<(), Refusal>
     Ok(())
 }
 
-/// Checks parts of the vertices of a moment graph. It answers the numbers of generators exactly where no comparison fails, and
-/// else the first that fails: the number of vertices and all sizes come first, then the greatest vertex, then the blocks. Then
-/// the sheaf is a Braden-MacPherson sheaf (Braden-MacPherson 2001; Fiebig-Williamson) in every degree up to the bound, no
-/// generator has a degree above the bound, and each number is the dimension of the boundary module modulo multiples of positive degree.
+/// Checks parts of the vertices of a moment graph. It answers the numbers of generators exactly where no comparison
+/// fails, and else the first that fails: the number of vertices and all sizes come first, then the greatest vertex,
+/// then the blocks. Then the sheaf is a Braden-MacPherson sheaf (Braden-MacPherson 2001; Fiebig-Williamson) in every
+/// degree up to the bound, no generator has a degree above the bound, and each number is the dimension of the boundary
+/// module modulo multiples of positive degree.
 ///
 /// The blocks are checked in their order, whatever the number of workers is.
 pub fn check_graph(
@@ -70,7 +72,8 @@ pub fn check_graph(
         OnOk result (HasGeneratorsUpTo graph.now (parts_sheaf graph.now w) degree) }
     ensures dimensions { let w : Written = record { degree = degree; parts = parts.now } in
         OnOk result (CountsAreDimensions graph.now (parts_sheaf graph.now w) degree (top_vertex graph.now)) }
-    ensures refused { IfErr result (IsRefusedBy (IsFirstRefusal graph.now version (record { degree = degree; parts = parts.now }))) }
+    ensures refused { IfErr result
+        (IsRefusedBy (IsFirstRefusal graph.now version (record { degree = degree; parts = parts.now }))) }
 {
     let _workers = workers;
     let given = Given {
@@ -107,7 +110,8 @@ pub fn check(
         OnOk result (HasGeneratorsUpTo G (parts_sheaf G (written_by c.now)) c.now.job.degree) }
     ensures dimensions { let G = graph_of (prepared_of a.now) in
         OnOk result (CountsAreDimensions G (parts_sheaf G (written_by c.now)) c.now.job.degree (top_vertex G)) }
-    ensures refused { IfErr result (IsRefusedBy (IsFirstRefusal (graph_of (prepared_of a.now)) c.now.version (written_by c.now))) }
+    ensures refused { IfErr result
+        (IsRefusedBy (IsFirstRefusal (graph_of (prepared_of a.now)) c.now.version (written_by c.now))) }
 {
     check_graph(
         rt,

@@ -22,7 +22,8 @@ use bmp_graph::MomentGraph;
 use bmp_sheaf::{Sheaf, SheafFault};
 use std::alloc::{AllocError, Global};
 
-/// Adds the stalk that a part writes down, at the greatest vertex whose stalk isn't there. Since it is one, memory alone can be wanting.
+/// Adds the stalk that a part writes down, at the greatest vertex whose stalk isn't there. Since it is one, memory
+/// alone can be wanting.
 fn push_part(sheaf: &mut Sheaf<PrimeField>, part: &VertexPart) -> Result<(), AllocError>
     requires left { length sheaf.old.stalks < vertex_count sheaf.old.graph }
     requires values { All (λ v. ValuesBelow v sheaf.old.graph.prime) part.now.lifts }
@@ -54,8 +55,8 @@ fn sheaf_of(alloc: Global, graph: &MomentGraph, c: &Given) -> Result<Sheaf<Prime
     Ok(sheaf)
 }
 
-/// Compares the number of parts with that of the vertices of the graph, and all sizes, before any sheaf is made. A refusal is the
-/// first comparison that fails; where none does, the table of sizes comes.
+/// Compares the number of parts with that of the vertices of the graph, and all sizes, before any sheaf is made. A
+/// refusal is the first comparison that fails; where none does, the table of sizes comes.
 pub(crate) fn check_sizes(
     alloc: Global,
     graph: &MomentGraph,
@@ -66,7 +67,8 @@ pub(crate) fn check_sizes(
     ensures count { OnOk result (CountPasses graph.now (written_in c.now)) }
     ensures shape { OnOk result (ShapePasses graph.now (method_in c.now) (written_in c.now)) }
     ensures refused { let w = written_in c.now in
-        IfErr result (IsRefusedBy (λ r. IsCountRefusal graph.now w r ⊎ (CountPasses graph.now w × IsShapeRefusal graph.now (method_in c.now) w r))) }
+        IfErr result (IsRefusedBy (λ r. IsCountRefusal graph.now w r ⊎
+        (CountPasses graph.now w × IsShapeRefusal graph.now (method_in c.now) w r))) }
 {
     check_count(graph, c)?;
     let sizes = SizeTable::new(alloc, graph, c)?;
@@ -99,8 +101,8 @@ pub(crate) fn shaped_of<'a>(
     })
 }
 
-/// Compares the number of parts with that of the vertices of the graph, and all sizes, before any sheaf is made. A refusal is the
-/// first comparison that fails; where none does, the parts come with the sheaf that they write down.
+/// Compares the number of parts with that of the vertices of the graph, and all sizes, before any sheaf is made. A
+/// refusal is the first comparison that fails; where none does, the parts come with the sheaf that they write down.
 pub fn shape<'a>(
     alloc: Global,
     graph: &'a MomentGraph,
@@ -114,7 +116,8 @@ pub fn shape<'a>(
     ensures count { OnOk result (CountPasses graph.now (written_in c.now)) }
     ensures shape { OnOk result (ShapePasses graph.now (method_in c.now) (written_in c.now)) }
     ensures refused { let w = written_in c.now in
-        IfErr result (IsRefusedBy (λ r. IsCountRefusal graph.now w r ⊎ (CountPasses graph.now w × IsShapeRefusal graph.now (method_in c.now) w r))) }
+        IfErr result (IsRefusedBy (λ r. IsCountRefusal graph.now w r ⊎
+        (CountPasses graph.now w × IsShapeRefusal graph.now (method_in c.now) w r))) }
 {
     let sizes = check_sizes(alloc, graph, c)?;
     let shaped = shaped_of(alloc, graph, c, sizes)?;

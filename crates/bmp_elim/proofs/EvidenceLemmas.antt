@@ -42,7 +42,8 @@ unit_small p i j two =
       | inr other ↦ let none : unit i j ≡ 0 = unit_other i j other in rw none (omega arith)
     ]
 
-module _ (p : ℕ) (old a t : Matrix) (ps : List ℕ) (basis rows : List (List Entry)) (two : 2 ≤ p) (h : IsTrace p old a t) (r : IsEchelon a ps) (b : IsBasisBelow p a ps a.cols basis) (w : AreRowVectors p t 0 (length ps) rows) where
+module _ (p : ℕ) (old a t : Matrix) (ps : List ℕ) (basis rows : List (List Entry)) (two : 2 ≤ p) (h : IsTrace p old a t)
+    (r : IsEchelon a ps) (b : IsBasisBelow p a ps a.cols basis) (w : AreRowVectors p t 0 (length ps) rows) where
   abbrev evidence : KernelEvidence
   evidence = record { pivots = ps; basis = basis; rows = rows }
 
@@ -50,42 +51,53 @@ module _ (p : ℕ) (old a t : Matrix) (ps : List ℕ) (basis rows : List (List E
   row_count = omega (arith, w.one_for_each)
 
   pub row_each : (k : ℕ) → k < length rows → IsRowVector p t k (get_or rows k [])
-  row_each k l = let same : 0 + k ≡ k = omega arith in subst (λ i. IsRowVector p t i (get_or rows k [])) same (w.each k l)
+  row_each k l = let same : 0 + k ≡ k = omega arith in
+      subst (λ i. IsRowVector p t i (get_or rows k [])) same (w.each k l)
 
   pub evidence_fits : EvidenceFits evidence old.rows old.cols
   evidence_fits =
-      let all : length (free_places ps a.cols) + length ps ≡ a.cols = length-free_places ps a.cols (pivots_rise a ps r) (pivots_below a ps r) in
+      let all : length (free_places ps a.cols) + length ps ≡ a.cols =
+      length-free_places ps a.cols (pivots_rise a ps r) (pivots_below a ps r) in
       record {
         pivots_rise = pivots_rise a ps r;
         pivots_below = rw (← h.cols) (pivots_below a ps r);
         row_for_each = row_count;
         in_all = rw (← h.cols) (omega (arith, b.one_for_each));
         basis_fits = all_from_index (λ v. FitsBelow v old.cols) basis (length basis) [] (omega arith) (λ k l i d m.
-            let fits : (get_or (get_or basis k []) i d).place < get_or (free_places ps a.cols) k 0 + 1 = (b.vectors k l).fits i d m in
-            let below : get_or (free_places ps a.cols) k 0 < a.cols = free_place_below ps a.cols k (rw (← b.one_for_each) l) in
+            let fits : (get_or (get_or basis k []) i d).place < get_or (free_places ps a.cols) k 0 + 1 =
+            (b.vectors k l).fits i d m in
+            let below : get_or (free_places ps a.cols) k 0 < a.cols =
+            free_place_below ps a.cols k (rw (← b.one_for_each) l) in
             omega (arith, h.cols));
-        rows_fit = all_from_index (λ v. FitsBelow v old.rows) rows (length rows) [] (omega arith) (λ k l. rw (← h.trace_cols) (row_each k l).fits);
+        rows_fit = all_from_index (λ v. FitsBelow v old.rows) rows (length rows) [] (omega arith)
+            (λ k l. rw (← h.trace_cols) (row_each k l).fits);
       }
 
   pub evidence_below : EvidenceBelow evidence p
   evidence_below = record {
-    basis_below = all_from_index (λ v. ValuesBelow v p) basis (length basis) [] (omega arith) (λ k l. (b.vectors k l).below);
-    rows_below = all_from_index (λ v. ValuesBelow v p) rows (length rows) [] (omega arith) (λ k l. (row_each k l).below);
+    basis_below = all_from_index (λ v. ValuesBelow v p) basis (length basis) [] (omega arith)
+        (λ k l. (b.vectors k l).below);
+    rows_below = all_from_index (λ v. ValuesBelow v p) rows (length rows) [] (omega arith)
+        (λ k l. (row_each k l).below);
   }
 
   free_at : (u : ℕ) → u < length basis → IsFreePlace ps a.cols u (get_or (free_places ps a.cols) u 0)
   free_at u l = free_place ps a.cols u (rw (← b.one_for_each) l)
 
   -- at the free places a basis vector is a unit
-  basis_free : (k u : ℕ) → k < length basis → u < length basis → vector_at basis k (get_or (free_places ps a.cols) u 0) ≡ unit u k
+  basis_free : (k u : ℕ) → k < length basis → u < length basis → vector_at basis k (get_or (free_places ps a.cols) u 0)
+      ≡ unit u k
   basis_free k u l m =
       let v : IsFreeVector p a ps (get_or (free_places ps a.cols) k 0) (get_or basis k []) = b.vectors k l in
       let f : IsFreePlace ps a.cols u (get_or (free_places ps a.cols) u 0) = free_at u m in
       let g : IsFreePlace ps a.cols k (get_or (free_places ps a.cols) k 0) = free_at k l in
       elim (cases_eq u k) [
-        | inl same ↦ ap (λ i. vector_at basis k (get_or (free_places ps a.cols) i 0)) same ∙ v.at_free ∙ sym (unit_same k) ∙ ap (λ i. unit i k) (sym same)
+        | inl same ↦ ap (λ i. vector_at basis k (get_or (free_places ps a.cols) i 0)) same ∙ v.at_free
+            ∙ sym (unit_same k) ∙ ap (λ i. unit i k) (sym same)
         | inr other ↦
-            v.elsewhere (get_or (free_places ps a.cols) u 0) (λ e. other (sym f.number ∙ ap (λ j. length (free_places ps j)) e ∙ g.number)) (not_place ps (get_or (free_places ps a.cols) u 0) f.free)
+            v.elsewhere (get_or (free_places ps a.cols) u 0)
+            (λ e. other (sym f.number ∙ ap (λ j. length (free_places ps j)) e ∙ g.number))
+            (not_place ps (get_or (free_places ps a.cols) u 0) f.free)
             ∙ sym (unit_other u k other)
       ]
 
@@ -94,17 +106,24 @@ module _ (p : ℕ) (old a t : Matrix) (ps : List ℕ) (basis rows : List (List E
   basis_kernel k l =
       let v : IsFreeVector p a ps (get_or (free_places ps a.cols) k 0) (get_or basis k []) = b.vectors k l in
       let g : IsFreePlace ps a.cols k (get_or (free_places ps a.cols) k 0) = free_at k l in
-      let reduced : IsReducedBelow old.cols a (length ps) (λ i. get_or ps i 0) = subst (λ n. IsReducedBelow n a (length ps) (λ i. get_or ps i 0)) h.cols r in
-      free_vector_image p old a t (length ps) (λ i. get_or ps i 0) h reduced (get_or (free_places ps a.cols) k 0) (vector_at basis k) (rw (← h.cols) g.below) (not_place ps (get_or (free_places ps a.cols) k 0) g.free) v.at_free v.at_pivots v.elsewhere
+      let reduced : IsReducedBelow old.cols a (length ps) (λ i. get_or ps i 0) =
+      subst (λ n. IsReducedBelow n a (length ps) (λ i. get_or ps i 0)) h.cols r in
+      free_vector_image p old a t (length ps) (λ i. get_or ps i 0) h reduced (get_or (free_places ps a.cols) k 0)
+      (vector_at basis k) (rw (← h.cols) g.below) (not_place ps (get_or (free_places ps a.cols) k 0) g.free)
+      v.at_free v.at_pivots v.elsewhere
 
   -- at the pivots a combination of the old rows is a unit
-  row_pivot : (k s : ℕ) → k < length rows → s < length ps → combination (vector_at rows k) old.entry old.rows (get_or ps s 0) % p ≡ unit s k
+  row_pivot : (k s : ℕ) → k < length rows → s < length ps →
+      combination (vector_at rows k) old.entry old.rows (get_or ps s 0) % p ≡ unit s k
   row_pivot k s l m =
       let v : IsRowVector p t k (get_or rows k []) = row_each k l in
       let pivot : ℕ = get_or ps s 0 in
-      let reduced : IsReducedBelow old.cols a (length ps) (λ i. get_or ps i 0) = subst (λ n. IsReducedBelow n a (length ps) (λ i. get_or ps i 0)) h.cols r in
-      let numbers : combination (vector_at rows k) old.entry old.rows pivot ≡ combination (t.entry k) old.entry old.rows pivot =
-      sum_below_same (λ i. vector_at rows k i * old.entry i pivot) (λ i. t.entry k i * old.entry i pivot) old.rows (λ i c. ap (λ x. x * old.entry i pivot) (v.numbers i (rw h.trace_cols c))) in
+      let reduced : IsReducedBelow old.cols a (length ps) (λ i. get_or ps i 0) =
+      subst (λ n. IsReducedBelow n a (length ps) (λ i. get_or ps i 0)) h.cols r in
+      let numbers : combination (vector_at rows k) old.entry old.rows pivot ≡ combination (t.entry k) old.entry old.rows
+      pivot =
+      sum_below_same (λ i. vector_at rows k i * old.entry i pivot) (λ i. t.entry k i * old.entry i pivot) old.rows
+      (λ i c. ap (λ x. x * old.entry i pivot) (v.numbers i (rw h.trace_cols c))) in
       ap (λ x. x % p) numbers
       ∙ trace_at_pivot p old a t (length ps) (λ i. get_or ps i 0) h reduced k s (rw (← row_count) l) m
       ∙ mod-eq_of_lt (unit_small p s k two)

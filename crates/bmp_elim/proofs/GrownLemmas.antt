@@ -326,7 +326,8 @@ module _ {p : ℕ} {old new a t : Matrix} {ps chosen w u : List ℕ} {count : �
           ap (λ n. sum_below (λ k. y k * t.entry i k) n % p) height
           ∙ ap (λ z. z % p) (sym (trace_says y i ∙ whole))
           ∙ kernel i (omega (arith, more.trace_row.rows, trace_height, early)) in
-          let before : (k : ℕ) → k < a.rows → SameMod p (y k) 0 = λ k m. h.trace.faithful y old_kernel k (rw height m) in
+          let before : (k : ℕ) → k < a.rows → SameMod p (y k) 0 =
+          λ k m. h.trace.faithful y old_kernel k (rw height m) in
           elim (cases_eq k a.rows) [
             | inl last ↦
                 let zeros : SameMod p (sum_below (λ k. y k * new_t.entry a.rows k) a.rows) 0 =
@@ -337,7 +338,8 @@ module _ {p : ℕ} {old new a t : Matrix} {ps chosen w u : List ℕ} {count : �
                 a.rows) (y a.rows * new_t.entry a.rows a.rows) zeros refl)
                 ∙ ap (λ z. z % p) (sym (trace_says y a.rows))
                 ∙ kernel a.rows (omega (arith, more.trace_row.rows, trace_height)) in
-                let none : 0 + y a.rows * new_t.entry a.rows a.rows ≡ y a.rows * new_t.entry a.rows a.rows = omega arith in
+                let none : 0 + y a.rows * new_t.entry a.rows a.rows ≡ y a.rows * new_t.entry a.rows a.rows =
+                omega arith in
                 let multiple : SameMod p (y a.rows * c) 0 =
                 same_mul p (y a.rows) (y a.rows) c (new_t.entry a.rows a.rows) refl
                 (sym (ap (λ z. z % p) own_factor ∙ mod-mod c p))
@@ -510,7 +512,8 @@ pushed_made a v = record {
 }
 
 -- the basis of no rows
-pub grown_none : {p count : ℕ} {old a t : Matrix} → old.rows ≡ 0 → count ≡ 0 → a.rows ≡ 0 → t.rows ≡ 0 → a.cols ≡ old.cols
+pub grown_none : {p count : ℕ} {old a t : Matrix} → old.rows ≡ 0 → count ≡ 0 → a.rows ≡ 0 → t.rows ≡ 0 →
+    a.cols ≡ old.cols
     → t.cols ≡ old.cols → IsGrown p old a t [] [] count
 grown_none {p} {count} {old} {a} {t} none first rows trace_rows cols trace_cols = record {
   as_many = none ∙ sym first;
@@ -548,7 +551,8 @@ combination_sum {p} {a} {v} {w} c first second = record {
       sum_below_same (λ k. (first.factors k + c * second.factors k) * a.entry k j) (λ k. first.factors k * a.entry k j +
       (c * second.factors k) * a.entry k j) a.rows (λ k b. omega arith)
       ∙ sum_below-add (λ k. first.factors k * a.entry k j) (λ k. (c * second.factors k) * a.entry k j) a.rows
-      ∙ ap (λ z. combination first.factors a.entry a.rows j + z) (combination_scaled c second.factors a.entry a.rows j) in
+      ∙ ap (λ z. combination first.factors a.entry a.rows j + z)
+      (combination_scaled c second.factors a.entry a.rows j) in
       same_add p (v j) (combination first.factors a.entry a.rows j) (c * w j) (c * combination second.factors a.entry
       a.rows j) (first.sums j l) (same_mul p c c (w j) (combination second.factors a.entry a.rows j) refl (second.sums j
       l))
@@ -600,7 +604,8 @@ module _ {p : ℕ} {old a t : Matrix} {ps chosen w u : List ℕ} {count : ℕ} {
   left_combination : IsRowCombination p (chosen_rows chosen old) v → IsRowCombination p a (λ j. get_or w j 0)
   left_combination made =
       let through : IsRowCombination p a (combination made.factors (chosen_rows chosen old).entry (length chosen)) =
-      combination_through made.factors (chosen_rows chosen old).entry (length chosen) (λ i l. h.written (get_or chosen i 0) (h.choice.below i 0 l)) in
+      combination_through made.factors (chosen_rows chosen old).entry (length chosen)
+      (λ i l. h.written (get_or chosen i 0) (h.choice.below i 0 l)) in
       let of_v : IsRowCombination p a v = record {
         factors = through.factors;
         sums = λ j l. made.sums j (rw (← h.trace.cols) l) ∙ through.sums j l;

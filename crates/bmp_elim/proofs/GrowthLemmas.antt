@@ -77,7 +77,8 @@ module _ {p n : ℕ} {a t : Matrix} {ps : List ℕ} {v : ℕ → ℕ} {w u : Lis
         let more = combination_more h.factors n c a.entry j in
         let whole : (v j + combination h.factors a.entry n j) + c * a.entry n j ≡ v j + combination (extended
         h.factors n c) a.entry (n + 1) j = omega (arith, more) in
-        remains p (get_or w j 0) (get_or new_w j 0) _ (c * a.entry n j) (row.added j l) (h.left j l) ∙ ap (λ z. z % p) whole;
+        remains p (get_or w j 0) (get_or new_w j 0) _ (c * a.entry n j) (row.added j l) (h.left j l)
+        ∙ ap (λ z. z % p) whole;
     factors_left = λ j l.
         remains p (get_or u j 0) (get_or new_u j 0) _ (c * t.entry n j) (trace_row.added j l) (h.factors_left j l)
         ∙ ap (λ z. z % p) (sym (combination_more h.factors n c t.entry j));

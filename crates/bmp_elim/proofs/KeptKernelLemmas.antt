@@ -99,7 +99,8 @@ module _ {p : ℕ} {old a t : Matrix} {ps : List ℕ} {split start : ℕ} {chose
               | inr late ↦
                   let above : split ≤ get_or ps k 0 = h.choice.count.late k late inside in
                   let none : number_at v (get_or ps k 0) ≡ 0 = past (get_or ps k 0) above in
-                  let kept_none : number_at v (get_or kept k 0) ≡ 0 = past (get_or kept k 0) (late_kept k late inside) in
+                  let kept_none : number_at v (get_or kept k 0) ≡ 0 =
+                  past (get_or kept k 0) (late_kept k late inside) in
                   ap₂ (λ x y. (x + y) % p) (at k) (kept_none ∙ sym none) ∙ made.at_pivots k inside
             ];
         elsewhere = λ j away none. elim (cases_lt j split) [

@@ -20,7 +20,8 @@ placed_start p ps P = record {
   elsewhere = λ j h. refl;
 }
 
-module _ (p : ℕ) (ps : List ℕ) (n : ℕ) (P : ℕ → ℕ → Type 0) (v : List Entry) (rising : AreRising ps) (within : n < length ps) (h : IsPlacedBelow p ps n P v) where
+module _ (p : ℕ) (ps : List ℕ) (n : ℕ) (P : ℕ → ℕ → Type 0) (v : List Entry) (rising : AreRising ps)
+    (within : n < length ps) (h : IsPlacedBelow p ps n P v) where
   -- the next place is past the entries
   pub placed_fits : FitsBelow v (get_or ps n 0)
   placed_fits = h.fits (get_or ps n 0) (λ k l. rising k n l within)
@@ -30,26 +31,32 @@ module _ (p : ℕ) (ps : List ℕ) (n : ℕ) (P : ℕ → ℕ → Type 0) (v : L
     below = h.below;
     fits = λ m all. h.fits m (λ k l. all k (omega arith));
     at_places = λ k l. elim (cases_eq k n) [
-      | inl last ↦ subst (λ i. P i (number_at v (get_or ps i 0))) (sym last) (subst (P n) (sym (number_at-past v (get_or ps n 0) placed_fits)) is)
+      | inl last ↦ subst (λ i. P i (number_at v (get_or ps i 0))) (sym last)
+          (subst (P n) (sym (number_at-past v (get_or ps n 0) placed_fits)) is)
       | inr other ↦ h.at_places k (omega arith)
     ];
     elsewhere = λ j away. h.elsewhere j (λ k l. away k (omega arith));
   }
 
-  pub placed_push : (e : Entry) → e.place ≡ get_or ps n 0 → e.value < p → P n e.value → IsPlacedBelow p ps (n + 1) P (v ++ e ∷ [])
+  pub placed_push : (e : Entry) → e.place ≡ get_or ps n 0 → e.value < p → P n e.value →
+      IsPlacedBelow p ps (n + 1) P (v ++ e ∷ [])
   placed_push e at small is =
       let fits : FitsBelow v e.place = rw at placed_fits in
       record {
         below = All-push (λ d. d.value < p) v e h.below small;
-        fits = λ m all. All-push (λ d. d.place < m) v e (h.fits m (λ k l. all k (omega arith))) (rw at (all n (omega arith)));
+        fits = λ m all. All-push (λ d. d.place < m) v e (h.fits m (λ k l. all k (omega arith)))
+            (rw at (all n (omega arith)));
         at_places = λ k l. elim (cases_eq k n) [
-          | inl last ↦ subst (λ i. P i (number_at (v ++ e ∷ []) (get_or ps i 0))) (sym last) (subst (P n) (sym (ap (number_at (v ++ e ∷ [])) (sym at) ∙ number_at-push_same v e fits)) is)
+          | inl last ↦ subst (λ i. P i (number_at (v ++ e ∷ []) (get_or ps i 0))) (sym last)
+              (subst (P n) (sym (ap (number_at (v ++ e ∷ [])) (sym at) ∙ number_at-push_same v e fits)) is)
           | inr other ↦
               let before : k < n = omega arith in
               let under : get_or ps k 0 < get_or ps n 0 = rising k n before within in
-              subst (P k) (sym (number_at-push_other v e (get_or ps k 0) (λ same. absurd (omega (arith, same, at))))) (h.at_places k before)
+              subst (P k) (sym (number_at-push_other v e (get_or ps k 0) (λ same. absurd (omega (arith, same, at)))))
+              (h.at_places k before)
         ];
-        elsewhere = λ j away. number_at-push_other v e j (λ same. away n (omega arith) (sym at ∙ same)) ∙ h.elsewhere j (λ k l. away k (omega arith));
+        elsewhere = λ j away. number_at-push_other v e j (λ same. away n (omega arith) (sym at ∙ same))
+            ∙ h.elsewhere j (λ k l. away k (omega arith));
       }
 
 pub count_start : (ps : List ℕ) → IsCountBelow ps 0 0
@@ -97,7 +104,8 @@ pub rising_from : (ps : List ℕ) → IsStrictlyIncreasing ps → AreRising ps
 rising_from ps r k l before within = AllPairs-from_increasing ps r k l 0 before within
 
 -- the first place that isn't below n ends the count
-pub count_ended : (ps : List ℕ) (n count : ℕ) → IsStrictlyIncreasing ps → count ≤ length ps → ((k : ℕ) → k < count → get_or ps k 0 < n) → (count < length ps → n ≤ get_or ps count 0) → IsCountBelow ps n count
+pub count_ended : (ps : List ℕ) (n count : ℕ) → IsStrictlyIncreasing ps → count ≤ length ps →
+    ((k : ℕ) → k < count → get_or ps k 0 < n) → (count < length ps → n ≤ get_or ps count 0) → IsCountBelow ps n count
 count_ended ps n count r within early ended = record {
   within = within;
   early = early;
@@ -105,6 +113,7 @@ count_ended ps n count r within early ended = record {
       let here : n ≤ get_or ps count 0 = ended (omega arith) in
       elim (cases_eq count k) [
         | inl same ↦ rw (← same) here
-        | inr other ↦ let before : get_or ps count 0 < get_or ps k 0 = rising_from ps r count k (omega arith) b in omega arith
+        | inr other ↦ let before : get_or ps count 0 < get_or ps k 0 = rising_from ps r count k (omega arith) b in
+            omega arith
       ];
 }

@@ -14,11 +14,13 @@ use Rattle.bmp_linear.specs.RowVectors.{IsRowVector}
 use Rattle.bmp_elim.specs.Images.{SaysZeroFrom, SaysOther, HasImages}
 use Rattle.bmp_elim.proofs.EndLemmas.{solution, trace_late, refused_unsolved}
 
-reduced_in : (old a : Matrix) (ps : List ℕ) → a.cols ≡ old.cols → IsEchelon a ps → IsReducedBelow old.cols a (length ps) (λ k. get_or ps k 0)
+reduced_in : (old a : Matrix) (ps : List ℕ) → a.cols ≡ old.cols → IsEchelon a ps →
+    IsReducedBelow old.cols a (length ps) (λ k. get_or ps k 0)
 reduced_in old a ps cols r = subst (λ n. IsReducedBelow n a (length ps) (λ k. get_or ps k 0)) cols r
 
 -- where the late rows of the trace say 0 of b, its first rows say the numbers of a solution
-pub solution_made : (p : ℕ) (old a t : Matrix) (ps : List ℕ) (b : ℕ → ℕ) (x : List Entry) → 2 ≤ p → IsTrace p old a t → IsEchelon a ps → SaysZeroFrom p t (length ps) t.rows b → HasImages p t b ps x → IsSolution p old b x
+pub solution_made : (p : ℕ) (old a t : Matrix) (ps : List ℕ) (b : ℕ → ℕ) (x : List Entry) → 2 ≤ p → IsTrace p old a t →
+    IsEchelon a ps → SaysZeroFrom p t (length ps) t.rows b → HasImages p t b ps x → IsSolution p old b x
 solution_made zero old a t ps b x two h r late images = absurd (omega arith)
 solution_made (suc q) old a t ps b x two h r late images = record {
   fits = images.fits old.cols (λ k l. rw (← h.cols) (r.below k l));
@@ -30,7 +32,9 @@ solution_made (suc q) old a t ps b x two h r late images = record {
 }
 
 -- a late row of the trace that doesn't say 0 of b refuses it
-pub obstruction_made : (p : ℕ) (old a t : Matrix) (ps : List ℕ) (b : ℕ → ℕ) (row : ℕ) (y : List Entry) → IsTrace p old a t → IsEchelon a ps → SaysOther p t (length ps) row b → IsRowVector p t row y → IsObstruction p old b y
+pub obstruction_made : (p : ℕ) (old a t : Matrix) (ps : List ℕ) (b : ℕ → ℕ) (row : ℕ) (y : List Entry) →
+    IsTrace p old a t → IsEchelon a ps → SaysOther p t (length ps) row b → IsRowVector p t row y →
+    IsObstruction p old b y
 obstruction_made p old a t ps b row y h r other v =
     let within : row < old.rows = rw (← h.trace_rows) other.within in
     let read : (k : ℕ) → k < old.rows → number_at y k ≡ t.entry row k = λ k l. v.numbers k (rw h.trace_cols l) in
@@ -39,11 +43,14 @@ obstruction_made p old a t ps b row y h r other v =
       below = v.below;
       refuses = record {
         zero = λ j l.
-            ap (λ z. z % p) (sum_below_same (λ k. number_at y k * old.entry k j) (λ k. t.entry row k * old.entry k j) old.rows (λ k c. ap (λ z. z * old.entry k j) (read k c)))
-            ∙ trace_late p old a t (length ps) (λ k. get_or ps k 0) h (reduced_in old a ps h.cols r) row j other.late within l;
+            ap (λ z. z % p) (sum_below_same (λ k. number_at y k * old.entry k j) (λ k. t.entry row k * old.entry k j)
+            old.rows (λ k c. ap (λ z. z * old.entry k j) (read k c)))
+            ∙ trace_late p old a t (length ps) (λ k. get_or ps k 0) h (reduced_in old a ps h.cols r) row j other.late
+            within l;
         not_zero = λ e.
             let says : dot old.rows (number_at y) b ≡ image t b row =
-            sum_below_same (λ k. number_at y k * b k) (λ k. t.entry row k * b k) old.rows (λ k c. ap (λ z. z * b k) (read k c))
+            sum_below_same (λ k. number_at y k * b k) (λ k. t.entry row k * b k) old.rows
+            (λ k c. ap (λ z. z * b k) (read k c))
             ∙ products_turned (t.entry row) b old.rows
             ∙ ap (λ n. dot n b (t.entry row)) (sym h.trace_cols) in
             other.not_zero (ap (λ z. z % p) (sym says) ∙ e ∙ zero-mod p);

@@ -11,7 +11,8 @@ use Rattle.bmp_math.proofs.UnitLemmas.{unit_rows, unit_combination, combination_
 use Rattle.bmp_elim.proofs.Mixes.{Mix, mixed, AreMixed, IsFaithfulMix, mixed-combination, mixed-image, mixed_same, added_mix, added_mixed, added_faithful, multiplied_mix, multiplied_mixed, multiplied_faithful, exchanged_mix, exchanged_mixed, exchanged_faithful}
 
 -- the trace is mixed as the rows are
-trace_mixed : (p : ℕ) (old a new t : Matrix) (mix : Mix) → IsFaithfulMix p old.rows mix → AreMixed p mix a new → IsTrace p old a t → IsTrace p old new (mixed mix t)
+trace_mixed : (p : ℕ) (old a new t : Matrix) (mix : Mix) → IsFaithfulMix p old.rows mix → AreMixed p mix a new →
+    IsTrace p old a t → IsTrace p old new (mixed mix t)
 trace_mixed p old a new t mix faithful m h = record {
   rows = m.rows ∙ h.rows;
   cols = m.cols ∙ h.cols;
@@ -19,14 +20,19 @@ trace_mixed p old a new t mix faithful m h = record {
   trace_cols = h.trace_cols;
   gives = λ i l j b.
       m.mixes i j (rw h.rows l) (rw h.cols b)
-      ∙ mixed_same p old.rows mix (λ k. a.entry k j) (λ k. combination (t.entry k) old.entry old.rows j) faithful (λ k c. h.gives k c j b) i l
+      ∙ mixed_same p old.rows mix (λ k. a.entry k j) (λ k. combination (t.entry k) old.entry old.rows j) faithful
+      (λ k c. h.gives k c j b) i l
       ∙ ap (λ z. z % p) (sym (mixed-combination old.rows mix t old.entry j i));
   faithful = λ y zeros.
-      let kernel : IsInKernel p t y = λ i l. faithful.only_zero (image t y) (λ k c. ap (λ z. z % p) (sym (mixed-image mix t y k)) ∙ zeros k (rw h.trace_rows c)) i (rw (← h.trace_rows) l) in
+      let kernel : IsInKernel p t y =
+      λ i l. faithful.only_zero (image t y) (λ k c. ap (λ z. z % p) (sym (mixed-image mix t y k))
+      ∙ zeros k (rw h.trace_rows c)) i (rw (← h.trace_rows) l) in
       h.faithful y kernel;
 }
 
-alike_mixed : (p : ℕ) (old_a a new_a old_t t new_t : Matrix) (mix : Mix) → IsFaithfulMix p old_a.rows mix → AreMixed p mix a new_a → AreMixed p mix t new_t → AreChangedAlike p old_a a old_t t → AreChangedAlike p old_a new_a old_t new_t
+alike_mixed : (p : ℕ) (old_a a new_a old_t t new_t : Matrix) (mix : Mix) → IsFaithfulMix p old_a.rows mix →
+    AreMixed p mix a new_a → AreMixed p mix t new_t → AreChangedAlike p old_a a old_t t →
+    AreChangedAlike p old_a new_a old_t new_t
 alike_mixed p old_a a new_a old_t t new_t mix faithful x y h =
     let height : old_a.rows ≡ old_t.rows = sym h.first.trace_rows ∙ h.second.trace_rows in
     record {
@@ -36,17 +42,26 @@ alike_mixed p old_a a new_a old_t t new_t mix faithful x y h =
     }
 
 module _ (p : ℕ) (old_a a new_a old_t t new_t : Matrix) (h : AreChangedAlike p old_a a old_t t) where
-  pub alike_added : (into from c : ℕ) → from < old_a.rows → into ≢ from → IsRowAdded p a new_a into from c → IsRowAdded p t new_t into from c → AreChangedAlike p old_a new_a old_t new_t
+  pub alike_added : (into from c : ℕ) → from < old_a.rows → into ≢ from → IsRowAdded p a new_a into from c →
+      IsRowAdded p t new_t into from c → AreChangedAlike p old_a new_a old_t new_t
   alike_added into from c below apart x y =
-      alike_mixed p old_a a new_a old_t t new_t (added_mix into from c) (added_faithful p old_a.rows into from c below apart) (added_mixed p a new_a into from c x) (added_mixed p t new_t into from c y) h
+      alike_mixed p old_a a new_a old_t t new_t (added_mix into from c)
+      (added_faithful p old_a.rows into from c below apart) (added_mixed p a new_a into from c x)
+      (added_mixed p t new_t into from c y) h
 
-  pub alike_multiplied : (row c d : ℕ) → row < old_a.rows → SameMod p (c * d) 1 → IsRowMultiplied p a new_a row c → IsRowMultiplied p t new_t row c → AreChangedAlike p old_a new_a old_t new_t
+  pub alike_multiplied : (row c d : ℕ) → row < old_a.rows → SameMod p (c * d) 1 → IsRowMultiplied p a new_a row c →
+      IsRowMultiplied p t new_t row c → AreChangedAlike p old_a new_a old_t new_t
   alike_multiplied row c d below inverse x y =
-      alike_mixed p old_a a new_a old_t t new_t (multiplied_mix row c) (multiplied_faithful p old_a.rows row c d below inverse) (multiplied_mixed p a new_a row c x) (multiplied_mixed p t new_t row c y) h
+      alike_mixed p old_a a new_a old_t t new_t (multiplied_mix row c)
+      (multiplied_faithful p old_a.rows row c d below inverse) (multiplied_mixed p a new_a row c x)
+      (multiplied_mixed p t new_t row c y) h
 
-  pub alike_exchanged : (r s : ℕ) → r < old_a.rows → s < old_a.rows → AreRowsExchanged a new_a r s → AreRowsExchanged t new_t r s → AreChangedAlike p old_a new_a old_t new_t
+  pub alike_exchanged : (r s : ℕ) → r < old_a.rows → s < old_a.rows → AreRowsExchanged a new_a r s →
+      AreRowsExchanged t new_t r s → AreChangedAlike p old_a new_a old_t new_t
   alike_exchanged r s r_below s_below x y =
-      alike_mixed p old_a a new_a old_t t new_t (exchanged_mix r s) (exchanged_faithful p old_a.rows r s r_below s_below) (exchanged_mixed p a new_a r s x) (exchanged_mixed p t new_t r s y) h
+      alike_mixed p old_a a new_a old_t t new_t (exchanged_mix r s)
+      (exchanged_faithful p old_a.rows r s r_below s_below) (exchanged_mixed p a new_a r s x)
+      (exchanged_mixed p t new_t r s y) h
 
 -- the units lead from rows to themselves
 pub unit_trace : (p : ℕ) (a : Matrix) → IsTrace p a a (unit_rows a.rows)
@@ -67,7 +82,9 @@ alike_start p a t same = record {
 }
 
 -- a trace with the same numbers is a trace
-pub trace_same : (p : ℕ) (old new t u : Matrix) → u.rows ≡ t.rows → u.cols ≡ t.cols → ((i j : ℕ) → i < t.rows → j < t.cols → SameMod p (u.entry i j) (t.entry i j)) → IsTrace p old new t → IsTrace p old new u
+pub trace_same : (p : ℕ) (old new t u : Matrix) → u.rows ≡ t.rows → u.cols ≡ t.cols →
+    ((i j : ℕ) → i < t.rows → j < t.cols → SameMod p (u.entry i j) (t.entry i j)) → IsTrace p old new t →
+    IsTrace p old new u
 trace_same p old new t u rows cols same h = record {
   rows = h.rows;
   cols = h.cols;
@@ -76,17 +93,20 @@ trace_same p old new t u rows cols same h = record {
   gives = λ i l j b.
       h.gives i l j b
       ∙ sym (sum_same_mod p (λ k. u.entry i k * old.entry k j) (λ k. t.entry i k * old.entry k j) old.rows
-      (λ k c. same_mul p (u.entry i k) (t.entry i k) (old.entry k j) (old.entry k j) (same i k (rw h.trace_rows l) (rw h.trace_cols c)) refl));
+      (λ k c. same_mul p (u.entry i k) (t.entry i k) (old.entry k j) (old.entry k j)
+      (same i k (rw h.trace_rows l) (rw h.trace_cols c)) refl));
   faithful = λ y zeros.
       let kernel : IsInKernel p t y = λ i l.
-      sym (sum_same_mod p (λ k. y k * u.entry i k) (λ k. y k * t.entry i k) t.cols (λ k c. same_mul p (y k) (y k) (u.entry i k) (t.entry i k) refl (same i k l c)))
+      sym (sum_same_mod p (λ k. y k * u.entry i k) (λ k. y k * t.entry i k) t.cols
+      (λ k c. same_mul p (y k) (y k) (u.entry i k) (t.entry i k) refl (same i k l c)))
       ∙ ap (λ n. image (record { rows = u.rows; cols = n; entry = u.entry }) y i % p) (sym cols)
       ∙ zeros i (rw rows l) in
       h.faithful y kernel;
 }
 
 -- the changed units are the trace
-pub trace_from_units : (p : ℕ) (a new_a t new_t : Matrix) → AreUnits a.rows a.rows t → AreChangedAlike p a new_a t new_t → IsTrace p a new_a new_t
+pub trace_from_units : (p : ℕ) (a new_a t new_t : Matrix) → AreUnits a.rows a.rows t →
+    AreChangedAlike p a new_a t new_t → IsTrace p a new_a new_t
 trace_from_units p a new_a t new_t units h =
     let rows : new_t.rows ≡ h.trace.rows = h.second.rows ∙ sym h.second.trace_rows in
     let cols : new_t.cols ≡ h.trace.cols = h.second.cols ∙ units.cols ∙ sym h.first.trace_cols in
@@ -97,7 +117,8 @@ trace_from_units p a new_a t new_t units h =
     let column : j < a.rows = rw (← h.first.trace_cols) b in
     let whole : combination (h.trace.entry i) t.entry t.rows j ≡ h.trace.entry i j =
     ap (λ m. combination (h.trace.entry i) t.entry m j) units.rows
-    ∙ sum_below_same (λ k. h.trace.entry i k * t.entry k j) (λ k. h.trace.entry i k * unit k j) a.rows (λ k c. ap (λ z. h.trace.entry i k * z) (units.units k j c column))
+    ∙ sum_below_same (λ k. h.trace.entry i k * t.entry k j) (λ k. h.trace.entry i k * unit k j) a.rows
+    (λ k c. ap (λ z. h.trace.entry i k * z) (units.units k j c column))
     ∙ combination_unit a.rows j (h.trace.entry i) column in
     h.second.gives i row j (rw units.cols column) ∙ ap (λ z. z % p) whole)
     h.first

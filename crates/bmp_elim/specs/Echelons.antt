@@ -1,10 +1,12 @@
 -- Rows in reduced echelon form.
---   IsReducedBelow n a count pivot   the columns below n are reduced: of the first `count` rows each has a leading 1, row k at the place pivot k
+--   IsReducedBelow n a count pivot   the columns below n are reduced: of the first `count` rows each has a leading 1,
+--                                    row k at the place pivot k
 --   IsEchelon a pivots               all columns are reduced, and the leading ones stand at the pivots
 use Rattle.std.specs.Prelude.{◌≡◌, ◌≢◌, ℕ, ◌<◌, ◌≤◌, List, length, slice_index}
 use Rattle.bmp_math.specs.Matrices.{Matrix}
 
--- the first `count` rows lead with a 1 below n, at rising places, each the only number of its column, and the rows after them are 0 below n
+-- the first `count` rows lead with a 1 below n, at rising places, each the only number of its column, and the rows
+-- after them are 0 below n
 pub record IsReducedBelow (n : ℕ) (a : Matrix) (count : ℕ) (pivot : ℕ → ℕ) : Type 0 where
   pub within : count ≤ a.rows
   pub below : (k : ℕ) → k < count → pivot k < n

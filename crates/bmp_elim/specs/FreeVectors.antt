@@ -1,7 +1,8 @@
 -- Vectors with numbers at pivots and at a free place.
 --   IsPlacedBelow p ps n P v          v has numbers at the first n of the places ps alone, that of the k-th with P k
 --   IsCountBelow ps j n               n of the pivots ps, the first ones, are below j
---   IsFreeVector p a ps free v        v is 1 at the free place, takes its column away at the pivots before it, and is 0 elsewhere
+--   IsFreeVector p a ps free v        v is 1 at the free place, takes its column away at the pivots before it, and is 0
+--                                     elsewhere
 --   IsBasisBelow p a ps n vs          one for each free place below n, in rising order
 use Rattle.std.specs.Prelude.{◌≡◌, ◌≢◌, ℕ, ◌+◌, ◌<◌, ◌≤◌, List, [], length, slice_index, slice_index_or}
 use Rattle.bmp_math.specs.Congruences.{SameMod}
@@ -34,4 +35,5 @@ pub record IsFreeVector (p : ℕ) (a : Matrix) (ps : List ℕ) (free : ℕ) (v :
 -- the vectors of the free places below n, in rising order
 pub record IsBasisBelow (p : ℕ) (a : Matrix) (ps : List ℕ) (n : ℕ) (vs : List (List Entry)) : Type 0 where
   pub one_for_each : length vs ≡ length (free_places ps n)
-  pub vectors : (t : ℕ) → t < length vs → IsFreeVector p a ps (slice_index (free_places ps n) t) (slice_index_or vs t [])
+  pub vectors : (t : ℕ) → t < length vs →
+      IsFreeVector p a ps (slice_index (free_places ps n) t) (slice_index_or vs t [])

@@ -3,13 +3,15 @@
 --   chosen_rows chosen old              the matrix of the chosen rows of old
 --   narrowed n t                        the first n columns of t
 --   IsRowCombination p a v              v is a combination of the rows of a
---   HasLeading a ps                     each row leads with a 1, at its place of ps, and is 0 at the places before it in ps
+--   HasLeading a ps                     each row leads with a 1, at its place of ps, and is 0 at the places before it
+--                                       in ps
 --   IsGrown p old a t ps chosen count   reduced rows a with their trace t: each row of old is a combination of them
 --   GrewFromSome p a t ps chosen count  some rows have this basis
 --   IsKeptOrMore chosen count more      more is chosen, or chosen and then the number `count`
 --   WritesRow p old chosen v x          x has the numbers by which the chosen rows combine to v
 -- Of the code alone:
---   IsRemainder p n a t ps v w u        w is v and what of the first n rows makes it 0 at their places, and u says what that is of the chosen ones
+--   IsRemainder p n a t ps v w u        w is v and what of the first n rows makes it 0 at their places, and u says what
+--                                       that is of the chosen ones
 --   IsFirstPlace numbers j              j is the first place whose number isn't 0
 --   IsMultiplied p c old new            each number times c, modulo p
 --   IsNegated p n numbers v             v has the first n numbers, each times p - 1

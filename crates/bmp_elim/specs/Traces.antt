@@ -1,5 +1,6 @@
 -- What leads from rows to changed rows.
---   IsTrace p old new t                     t is square, times the old rows it gives the new ones, and it sends only 0 to 0
+--   IsTrace p old new t                     t is square, times the old rows it gives the new ones, and it sends only 0
+--                                           to 0
 --   HasTrace p old new                      some such trace leads from the old rows to the new ones
 --   AreChangedAlike p a new_a t new_t       one trace leads from a to new_a and from t to new_t
 --   AreUnits n m t                          the rows are the first n unit vectors of m numbers

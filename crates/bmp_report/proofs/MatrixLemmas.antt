@@ -20,7 +20,8 @@ use Rattle.bmp_report.specs.GraphText.{matrix_words, vertex_line, next_number}
 
 -- what an element makes of the simple roots is its matrix
 pub entry_is : (e : Elem) (i j : ℕ) (z : ℤ) → IsElementOfOne e → i < rank_of e → j < rank_of e
-    → ((m : CartanMatrix) (u : List ℕ) → IsProduct m u e → z ≡ acts m u (integer_unit (j + 1 - 1)) (i + 1 - 1)) → z ≡ cell e.entries i j
+    → ((m : CartanMatrix) (u : List ℕ) → IsProduct m u e → z ≡ acts m u (integer_unit (j + 1 - 1)) (i + 1 - 1)) →
+    z ≡ cell e.entries i j
 entry_is e i j z one row column value =
     let product = one.element.1 in
     let few = one.form.at_most_six in
@@ -51,21 +52,27 @@ module _ (words : ℕ → List (List ℕ)) where
       ∙ (ap (λ (t : List ℕ). out ++ t) (sym (spaced-append (words x) (range_text words (x + 1) k)))
       ∙ (ap (λ (m : ℕ). out ++ spaced_words (range_text words x m)) (sym less) ∙ so_far))
 
-  pub range_lists_end : (out all : List ℕ) (x n : ℕ) → n ≡ 0 → out ++ spaced_words (range_text words x n) ≡ all → out ≡ all
-  range_lists_end out all x n none so_far = sym (append-nil out) ∙ (ap (λ (m : ℕ). out ++ spaced_words (range_text words x m)) (sym none) ∙ so_far)
+  pub range_lists_end : (out all : List ℕ) (x n : ℕ) → n ≡ 0 → out ++ spaced_words (range_text words x n) ≡ all →
+      out ≡ all
+  range_lists_end out all x n none so_far =
+      sym (append-nil out) ∙ (ap (λ (m : ℕ). out ++ spaced_words (range_text words x m)) (sym none) ∙ so_far)
 
 -- ---- the line of a vertex
 
-pub vertex_printed : (out : List ℕ) (roots : Roots) (x n l m rank : ℕ) (e f : Elem) → n ≡ x → m ≡ l → l ≡ element_length (positive_roots_of roots) f
+pub vertex_printed : (out : List ℕ) (roots : Roots) (x n l m rank : ℕ) (e f : Elem) → n ≡ x → m ≡ l →
+    l ≡ element_length (positive_roots_of roots) f
     → rank ≡ (matrix_of roots).rank → f ≡ e
-    → ((((out ++ codes "vertex") ++ (32 ∷ decimal n)) ++ (32 ∷ decimal m)) ++ spaced_words (matrix_words rank f)) ++ (10 ∷ []) ≡ out ++ vertex_line roots x e
+    → ((((out ++ codes "vertex") ++ (32 ∷ decimal n)) ++ (32 ∷ decimal m)) ++ spaced_words (matrix_words rank f)) ++
+    (10 ∷ []) ≡ out ++ vertex_line roots x e
 vertex_printed out roots x n l m rank e f number same length_is rank_is is =
-    let printed : ((((out ++ codes "vertex") ++ (32 ∷ decimal n)) ++ (32 ∷ decimal m)) ++ spaced_words (matrix_words rank f)) ++ (10 ∷ []) ≡
+    let printed : ((((out ++ codes "vertex") ++ (32 ∷ decimal n)) ++ (32 ∷ decimal m)) ++ spaced_words
+    (matrix_words rank f)) ++ (10 ∷ []) ≡
     out ++ line_text (codes "vertex") (decimal n ∷ decimal m ∷ matrix_words rank f) = simp append_assoc in
     printed ∙ ap (λ (line : List ℕ). out ++ line)
     (ap (λ (k : ℕ). line_text (codes "vertex") (decimal k ∷ decimal m ∷ matrix_words rank f)) number
     ∙ (ap (λ (k : ℕ). line_text (codes "vertex") (decimal x ∷ decimal k ∷ matrix_words rank f)) (same ∙ length_is)
-    ∙ (ap (λ (r : ℕ). line_text (codes "vertex") (decimal x ∷ decimal (element_length (positive_roots_of roots) f) ∷ matrix_words r f)) rank_is
+    ∙ (ap (λ (r : ℕ). line_text (codes "vertex")
+    (decimal x ∷ decimal (element_length (positive_roots_of roots) f) ∷ matrix_words r f)) rank_is
     ∙ ap (λ (g : Elem). vertex_line roots x g) is)))
 
 -- one vertex more is printed
@@ -75,6 +82,7 @@ pub vertices_on : (roots : Roots) (out new all : List ℕ) (vertices : List Elem
     → new ++ chain_text (vertex_line roots) next_number (x + 1) (drop (x + 1) vertices) ≡ all
 vertices_on roots out new all vertices x within printed so_far =
     elim ((slice_get_cases vertices x).1) [
-      | inl (e, l, at, is) ↦ (rw (printed e at) (states_on (vertex_line roots) next_number out all vertices x e x within (sym is) so_far))
+      | inl (e, l, at, is) ↦
+          (rw (printed e at) (states_on (vertex_line roots) next_number out all vertices x e x within (sym is) so_far))
       | inr (past, none) ↦ absurd (omega (arith, past, within))
     ]

@@ -43,7 +43,8 @@ abbrev pub numbered_text : List ℕ → ℕ → List ℕ
 numbered_text name n = name ++ (32 ∷ decimal n)
 
 abbrev pub pair_text : GkmPair → List ℕ
-pair_text p = numbered_text (codes "gkm vertex") p.vertex ++ (numbered_text (codes " edges") p.first ++ (32 ∷ decimal p.second))
+pair_text p = numbered_text (codes "gkm vertex") p.vertex ++
+    (numbered_text (codes " edges") p.first ++ (32 ∷ decimal p.second))
 
 abbrev pub fault_text : ℕ → JobFault → List ℕ
 fault_text rank (Cartan f) = cartan_text f

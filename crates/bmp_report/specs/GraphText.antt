@@ -1,5 +1,5 @@
--- The text of a job's moment graph: its vertices with lengths and matrices, and its edges with labels; and the line of a
--- graph that has the GKM condition.
+-- The text of a job's moment graph: its vertices with lengths and matrices, and its edges with labels; and the line of
+-- a graph that has the GKM condition.
 --   matrix_words rank e              the entries of the element's matrix, row by row
 --   vertex_line roots x e            `vertex x l` and the entries, for the element e with number x and length l
 --   edge_line g e                    `edge x y` and the coordinates of the label, for edge e

@@ -9,7 +9,8 @@ use Rattle.bmp_cert.specs.declared.cert.Cert.{Cert}
 use Rattle.bmp_cert.specs.Counts.{RankTable, written_by, generator_count, rank_in, IsRanksOf}
 
 abbrev pub rank_line : ℕ → (ℕ → ℕ → ℕ) → ℕ → List ℕ
-rank_line degree count x = line_text (codes "rank") (decimal x ∷ range_text (λ d. decimal (count x d) ∷ []) 0 (degree + 1))
+rank_line degree count x =
+    line_text (codes "rank") (decimal x ∷ range_text (λ d. decimal (count x d) ∷ []) 0 (degree + 1))
 
 abbrev pub rank_lines : ℕ → ℕ → (ℕ → ℕ → ℕ) → List ℕ
 rank_lines vertices degree count = range_text (rank_line degree count) 0 vertices

@@ -127,8 +127,8 @@ fn push_single(out: &mut Vec<u8>, word: &[u8], n: u64) -> Result<(), AllocError>
     Ok(())
 }
 
-/// The text of a job's moment graph: `vertices n`, for each vertex `vertex x l` with its length l and the entries of its
-/// matrix row by row, `edges m`, and for each edge `edge x y` with the coordinates of its label.
+/// The text of a job's moment graph: `vertices n`, for each vertex `vertex x l` with its length l and the entries of
+/// its matrix row by row, `edges m`, and for each edge `edge x y` with the coordinates of its label.
 pub fn graph_text(alloc: Global, p: &Prepared) -> Result<Vec<u8>, AllocError>
     ensures { IfOk result (λ v. v.items ≡ graph_text (system_of (interval_of p.now))
         (vertices_of (interval_of p.now)) (graph_of p.now)) }

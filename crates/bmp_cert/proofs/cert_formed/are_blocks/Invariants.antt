@@ -6,5 +6,7 @@ use Rattle.bmp_cert.proofs.FormedLemmas.{Decides}
 use Rattle.bmp_cert.proofs.cert_formed.are_blocks.Given as goal
 
 abbrev pub invariant-each : goal.invariant-each
-invariant-each l = Decides ((length l.blocks ≡ l.count) × ChainFits (IsBlock l.version l.most (λ d. count_by (λ e. e == d) l.degrees)) step_up 0 l.blocks)
+invariant-each l =
+    Decides ((length l.blocks ≡ l.count) × ChainFits (IsBlock l.version l.most (λ d. count_by (λ e. e == d) l.degrees))
+    step_up 0 l.blocks)
     (IsBlock l.version l.most (λ d. count_by (λ e. e == d) l.degrees)) step_up l.blocks l.i l.i

@@ -6,5 +6,8 @@ use Rattle.bmp_cert.proofs.cert_formed.is_part_at.Goals as goal
 
 pub returns-else-number-last : goal.returns-else-number-last
 returns-else-number-last c =
-    subst (λ (b : Bool). IsTrue c.is_part.result ↔ Chosen b (IsTop c.args.degree c.args.v.now) (IsPart c.args.version c.args.most c.args.degree c.args.number c.args.v.now))
-    (sym (ne_eqb c.args.number c.args.last (λ e. absurd (omega (arith, e, c.if-number-last.false))))) (c.is_part.ensures c.args.number)
+    subst (λ (b : Bool). IsTrue c.is_part.result ↔
+    Chosen b (IsTop c.args.degree c.args.v.now)
+    (IsPart c.args.version c.args.most c.args.degree c.args.number c.args.v.now))
+    (sym (ne_eqb c.args.number c.args.last (λ e. absurd (omega (arith, e, c.if-number-last.false)))))
+    (c.is_part.ensures c.args.number)

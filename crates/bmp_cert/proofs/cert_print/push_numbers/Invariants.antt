@@ -5,4 +5,6 @@ use Rattle.bmp_text.specs.Readers.{same}
 use Rattle.bmp_cert.proofs.cert_print.push_numbers.Given as goal
 
 abbrev pub invariant-numbers : goal.invariant-numbers
-invariant-numbers l = l.out.items ++ spaced_words (chain_text (λ (s : Unit {0}) x. decimal x ∷ []) same tt (drop l.n-index l.numbers)) ≡ l.initial.out.items ++ spaced_words (chain_text (λ (s : Unit {0}) x. decimal x ∷ []) same tt l.numbers)
+invariant-numbers l =
+    l.out.items ++ spaced_words (chain_text (λ (s : Unit {0}) x. decimal x ∷ []) same tt (drop l.n-index l.numbers))
+    ≡ l.initial.out.items ++ spaced_words (chain_text (λ (s : Unit {0}) x. decimal x ∷ []) same tt l.numbers)

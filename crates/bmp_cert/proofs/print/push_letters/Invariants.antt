@@ -5,4 +5,7 @@ use Rattle.bmp_text.specs.Readers.{same}
 use Rattle.bmp_cert.proofs.print.push_letters.Given as goal
 
 abbrev pub invariant-letters : goal.invariant-letters
-invariant-letters l = l.out.items ++ spaced_words (chain_text (λ (s : Unit {0}) x. decimal x ∷ []) same tt (drop l.letter-index l.letters)) ≡ l.initial.out.items ++ spaced_words (chain_text (λ (s : Unit {0}) x. decimal x ∷ []) same tt l.letters)
+invariant-letters l =
+    l.out.items ++ spaced_words
+    (chain_text (λ (s : Unit {0}) x. decimal x ∷ []) same tt (drop l.letter-index l.letters))
+    ≡ l.initial.out.items ++ spaced_words (chain_text (λ (s : Unit {0}) x. decimal x ∷ []) same tt l.letters)

@@ -8,7 +8,8 @@ use Rattle.bmp_cert.proofs.rules.accept_job.Goals as goal
 
 pub returns-in-Err-clause-fault : goal.returns-in-Err-clause-fault
 returns-in-Err-clause-fault c =
-    gkm_fault c.args.j.now (graph_of c.in_ok-prepared.prepared) c.in-Err.pair c.in_ok-prepared.ensures.kept c.in_ok-prepared.ensures.graph c.in-Err.ensures.fails
+    gkm_fault c.args.j.now (graph_of c.in_ok-prepared.prepared) c.in-Err.pair c.in_ok-prepared.ensures.kept
+    c.in_ok-prepared.ensures.graph c.in-Err.ensures.fails
 
 pub returns-in-Err-clause-only : goal.returns-in-Err-clause-only
 returns-in-Err-clause-only c = λ kept.

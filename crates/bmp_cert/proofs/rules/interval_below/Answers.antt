@@ -6,19 +6,28 @@ use Rattle.bmp_cert.proofs.SystemLemmas.{reduced_word, interval_of_word, reduced
 use Rattle.bmp_cert.proofs.rules.interval_below.Goals as goal
 
 pub returns-in-Ok-clause-kept : goal.returns-in-Ok-clause-kept
-returns-in-Ok-clause-kept c = keeps_both c.args.j.now letter_rules (HasReducedWord ∷ HasInterval ∷ []) c.requires.before (
-  reduced_word c.args.j.now c.args.roots.now c.as_slice.result.now c.as_slice.ensures.letters c.requires.system c.in-Ok.ensures.interval.interval.reduced,
-  (interval_of_word c.args.j.now c.args.roots.now c.as_slice.result.now _ c.as_slice.ensures.letters c.requires.system c.in-Ok.ensures.interval, tt),
-)
+returns-in-Ok-clause-kept c =
+    keeps_both c.args.j.now letter_rules (HasReducedWord ∷ HasInterval ∷ []) c.requires.before (
+      reduced_word c.args.j.now c.args.roots.now c.as_slice.result.now c.as_slice.ensures.letters c.requires.system
+          c.in-Ok.ensures.interval.interval.reduced,
+      (
+        interval_of_word c.args.j.now c.args.roots.now c.as_slice.result.now _ c.as_slice.ensures.letters
+            c.requires.system
+            c.in-Ok.ensures.interval,
+        tt,
+      ),
+    )
 
 pub returns-in-Err-NotReduced-clause-fault : goal.returns-in-Err-NotReduced-clause-fault
 returns-in-Err-NotReduced-clause-fault c =
-    reduced_fault c.args.j.now c.args.roots.now c.as_slice.result.now c.in-Err-NotReduced.length c.as_slice.ensures.letters
+    reduced_fault c.args.j.now c.args.roots.now c.as_slice.result.now c.in-Err-NotReduced.length
+    c.as_slice.ensures.letters
     c.requires.before c.requires.system (rw c.in-Err-NotReduced.field-0-is at c.in-Err-NotReduced.ensures.fault)
 
 pub returns-in-Err-NotReduced-clause-only : goal.returns-in-Err-NotReduced-clause-only
 returns-in-Err-NotReduced-clause-only c = λ kept.
-    let fault : IsFirstFault c.args.j.now (Reduced c.in-Err-NotReduced.length) = returns-in-Err-NotReduced-clause-fault c in
+    let fault : IsFirstFault c.args.j.now (Reduced c.in-Err-NotReduced.length) =
+    returns-in-Err-NotReduced-clause-fault c in
     absurd (not_kept c.args.j.now interval_rules 4 fault.fails kept)
 
 pub returns-in-Err-TooMany-clause-fault : goal.returns-in-Err-TooMany-clause-fault

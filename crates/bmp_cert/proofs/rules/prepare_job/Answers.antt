@@ -16,7 +16,8 @@ invariant_of-result c =
       graph = c.in_ok-graph.ensures.graph;
     } in
     record {
-      prepared = ∣ subst (λ (j : Job). IsPrepared j c.in_ok-interval.interval c.in_ok-graph.graph) (sym same) prepared ∣₁;
+      prepared = ∣ subst (λ (j : Job). IsPrepared j c.in_ok-interval.interval c.in_ok-graph.graph) (sym same) prepared
+          ∣₁;
       keeps = ∣ subst (λ (j : Job). KeepsAll graph_rules j) (sym same) c.in_ok-graph.ensures.kept ∣₁;
     }
 

@@ -9,11 +9,13 @@ pub entries-preserved : goal.entries-preserved
 entries-preserved c =
     let v = c.entries.invariant in
     let one = c.in-Some.entry in
-    let more : length (c.entries.entries ++ one ∷ []) ≡ length c.entries.entries + length (one ∷ []) = length-append c.entries.entries (one ∷ []) in
+    let more : length (c.entries.entries ++ one ∷ []) ≡ length c.entries.entries + length (one ∷ []) =
+    length-append c.entries.entries (one ∷ []) in
     rw (c.in_ok-push.ensures.ok, c.from-next.ensures)
     (record {
       small = omega arith;
       behind = fits_behind c.entries.entries c.entries.next one v.behind c.in-Some.ensures.entry.0;
       count = omega (arith, more, v.count);
-      read = read_more entry_text (IsEntry c.args.most) behind_place 0 c.entries.entries c.entries.next c.args.ahead.now c.entries.ahead c.entry_ahead.new.ahead one v.read c.in-Some.ensures.entry c.in-Some.ensures.read;
+      read = read_more entry_text (IsEntry c.args.most) behind_place 0 c.entries.entries c.entries.next c.args.ahead.now
+          c.entries.ahead c.entry_ahead.new.ahead one v.read c.in-Some.ensures.entry c.in-Some.ensures.read;
     })

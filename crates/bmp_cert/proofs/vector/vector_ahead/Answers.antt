@@ -10,15 +10,19 @@ pass_to-requires c =
     let plain = rw c.in-Some.is at c.in_ok-vector.ensures.word in
     let fits = rw c.in-Some.is at c.in_ok-vector.ensures.vector in
     let read = rw c.in-Some.is at c.in_ok-vector.ensures.read in
-    vector_cut c.args.word.now c.args.most c.args.lines.now c.in-Some.vector c.line_ahead.new.ahead plain (omega arith) fits (sym c.ahead-ahead.ensures ∙ read)
+    vector_cut c.args.word.now c.args.most c.args.lines.now c.in-Some.vector c.line_ahead.new.ahead plain (omega arith)
+    fits (sym c.ahead-ahead.ensures ∙ read)
 
 pub returns-clause-found : goal.returns-clause-found
 returns-clause-found c =
     let plain = rw c.in-Some.is at c.in_ok-vector.ensures.word in
     let fits = rw c.in-Some.is at c.in_ok-vector.ensures.vector in
     let read = rw c.in-Some.is at c.in_ok-vector.ensures.read in
-    vector_found c.args.word.now c.args.most c.args.lines.now c.in-Some.vector c.line_ahead.new.ahead plain (omega arith) fits (sym c.ahead-ahead.ensures ∙ read)
+    vector_found c.args.word.now c.args.most c.args.lines.now c.in-Some.vector c.line_ahead.new.ahead plain
+    (omega arith) fits (sym c.ahead-ahead.ensures ∙ read)
     ∙ ap (λ (t : Cursor ℕ). Ok (c.in-Some.vector, t)) (sym c.pass_to.ensures)
 
 pub returns-clause-later : goal.returns-clause-later
-returns-clause-later c = line_read c.args.word.now (vector c.args.most) c.args.lines.now c.pass_to.new.self c.in-Some.vector (returns-clause-found c)
+returns-clause-later c =
+    line_read c.args.word.now (vector c.args.most) c.args.lines.now c.pass_to.new.self c.in-Some.vector
+    (returns-clause-found c)

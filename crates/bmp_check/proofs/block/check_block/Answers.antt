@@ -20,7 +20,8 @@ pub block_at-x-requires-clause-block : goal.block_at-x-requires-clause-block
 block_at-x-requires-clause-block c =
     let count =
     counted_blocks c.shaped-shaped.ensures c.graph.ensures c.given.ensures c.vertices.ensures.count
-    (let same : block_count c.vertices.result c.given.result.now.degree ≡ block_count c.vertices.result c.given.result.now.degree = refl in same) in
+    (let same : block_count c.vertices.result c.given.result.now.degree
+    ≡ block_count c.vertices.result c.given.result.now.degree = refl in same) in
     omega (arith, c.requires.block, count)
 
 pub check_by_spaces-requires-clause-whole : goal.check_by_spaces-requires-clause-whole
@@ -39,14 +40,16 @@ check_by_spaces-requires-clause-block c =
 
 pub check_by_spaces-requires-clause-room : goal.check_by_spaces-requires-clause-room
 check_by_spaces-requires-clause-room c =
-    subst (λ (u : Shaped). IsRoomFor (graph_in u) (method_at u) (cert_in u) c.args.scratch.now) (sym c.shaped-shaped.ensures) c.requires.room
+    subst (λ (u : Shaped). IsRoomFor (graph_in u) (method_at u) (cert_in u) c.args.scratch.now)
+    (sym c.shaped-shaped.ensures) c.requires.room
 
 pub returns-in-Spaces-clause-ok : goal.returns-in-Spaces-clause-ok
 returns-in-Spaces-clause-ok c =
     let vertices = c.vertices.ensures.count ∙ ap (λ (H : Graph). vertex_count H) c.graph.ensures in
     let degree = ap (λ (g : Given). g.degree) c.given.ensures in
     on_ok_weaker c.check_by_spaces.result
-    (at_number c.args.i c.shaped-shaped.ensures vertices degree c.block_at-x.ensures.vertex c.block_at-x.ensures.degree BlockPasses)
+    (at_number c.args.i c.shaped-shaped.ensures vertices degree c.block_at-x.ensures.vertex c.block_at-x.ensures.degree
+    BlockPasses)
     c.check_by_spaces.ensures.ok
 
 pub returns-in-Spaces-clause-first : goal.returns-in-Spaces-clause-first
@@ -54,16 +57,19 @@ returns-in-Spaces-clause-first c =
     let vertices = c.vertices.ensures.count ∙ ap (λ (H : Graph). vertex_count H) c.graph.ensures in
     let degree = ap (λ (g : Given). g.degree) c.given.ensures in
     MatchResult-weaker c.check_by_spaces.result c.check_by_spaces.ensures.first (λ u h. h)
-    (λ r h. at_number c.args.i c.shaped-shaped.ensures vertices degree c.block_at-x.ensures.vertex c.block_at-x.ensures.degree
+    (λ r h. at_number c.args.i c.shaped-shaped.ensures vertices degree c.block_at-x.ensures.vertex
+    c.block_at-x.ensures.degree
     (λ G m w x d. IsBlockRefusal G m w x d r) h)
 
 pub returns-in-Spaces-clause-room : goal.returns-in-Spaces-clause-room
 returns-in-Spaces-clause-room c =
-    subst (λ (u : Shaped). IsRoomFor (graph_in u) (method_at u) (cert_in u) c.check_by_spaces.new.scratch) c.shaped-shaped.ensures c.check_by_spaces.ensures.room
+    subst (λ (u : Shaped). IsRoomFor (graph_in u) (method_at u) (cert_in u) c.check_by_spaces.new.scratch)
+    c.shaped-shaped.ensures c.check_by_spaces.ensures.room
 
 pub family-requires : goal.family-requires
 family-requires c =
-    let method = ap (λ (g : Given). method_of g.version) (sym c.given-2.ensures) ∙ sym c.method.ensures ∙ c.in-Levels.is in
+    let method = ap (λ (g : Given). method_of g.version) (sym c.given-2.ensures) ∙ sym c.method.ensures
+    ∙ c.in-Levels.is in
     let families = set_families c.shaped-shaped.ensures c.requires.set method in
     let degree = ap (λ (g : Given). g.degree) c.given.ensures in
     omega (arith, families.sized, degree, c.block_at-x.ensures.within.1)
@@ -78,7 +84,8 @@ check_by_levels-requires-clause-method c =
 pub check_by_levels-requires-clause-family : goal.check_by_levels-requires-clause-family
 check_by_levels-requires-clause-family c =
     let u = c.shaped-shaped.result.now in
-    let method = ap (λ (g : Given). method_of g.version) (sym c.given-2.ensures) ∙ sym c.method.ensures ∙ c.in-Levels.is in
+    let method = ap (λ (g : Given). method_of g.version) (sym c.given-2.ensures) ∙ sym c.method.ensures
+    ∙ c.in-Levels.is in
     let families = set_families c.shaped-shaped.ensures c.requires.set method in
     let degree = ap (λ (g : Given). g.degree) c.given.ensures in
     subst (λ (f : FamilyTable). HoldsFamilies (graph_in u) (cert_in u) c.block_at-x.result.1 f) (sym c.family.ensures)
@@ -93,14 +100,16 @@ check_by_levels-requires-clause-block c =
 
 pub check_by_levels-requires-clause-width : goal.check_by_levels-requires-clause-width
 check_by_levels-requires-clause-width c =
-    (subst (λ (u : Shaped). IsRoomFor (graph_in u) (method_at u) (cert_in u) c.args.scratch.now) (sym c.shaped-shaped.ensures) c.requires.room).width
+    (subst (λ (u : Shaped). IsRoomFor (graph_in u) (method_at u) (cert_in u) c.args.scratch.now)
+    (sym c.shaped-shaped.ensures) c.requires.room).width
 
 pub returns-in-Levels-clause-ok : goal.returns-in-Levels-clause-ok
 returns-in-Levels-clause-ok c =
     let vertices = c.vertices.ensures.count ∙ ap (λ (H : Graph). vertex_count H) c.graph.ensures in
     let degree = ap (λ (g : Given). g.degree) c.given.ensures in
     on_ok_weaker c.check_by_levels.result
-    (at_number c.args.i c.shaped-shaped.ensures vertices degree c.block_at-x.ensures.vertex c.block_at-x.ensures.degree BlockPasses)
+    (at_number c.args.i c.shaped-shaped.ensures vertices degree c.block_at-x.ensures.vertex c.block_at-x.ensures.degree
+    BlockPasses)
     c.check_by_levels.ensures.ok
 
 pub returns-in-Levels-clause-first : goal.returns-in-Levels-clause-first
@@ -108,7 +117,8 @@ returns-in-Levels-clause-first c =
     let vertices = c.vertices.ensures.count ∙ ap (λ (H : Graph). vertex_count H) c.graph.ensures in
     let degree = ap (λ (g : Given). g.degree) c.given.ensures in
     MatchResult-weaker c.check_by_levels.result c.check_by_levels.ensures.first (λ u h. h)
-    (λ r h. at_number c.args.i c.shaped-shaped.ensures vertices degree c.block_at-x.ensures.vertex c.block_at-x.ensures.degree
+    (λ r h. at_number c.args.i c.shaped-shaped.ensures vertices degree c.block_at-x.ensures.vertex
+    c.block_at-x.ensures.degree
     (λ G m w x d. IsBlockRefusal G m w x d r) h)
 
 pub returns-in-Levels-clause-room : goal.returns-in-Levels-clause-room

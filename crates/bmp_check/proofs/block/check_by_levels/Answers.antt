@@ -15,72 +15,92 @@ use Rattle.bmp_check.proofs.RefusalLemmas.{cover_first, kernel_second}
 use Rattle.bmp_check.proofs.block.check_by_levels.Goals as goal
 
 pub block_of-block-requires : goal.block_of-block-requires
-block_of-block-requires c = read_there c.args.x c.args.d c.given.ensures c.part_of.ensures (at_block c.requires.whole c.args.x c.args.d c.requires.block).there
+block_of-block-requires c =
+    read_there c.args.x c.args.d c.given.ensures c.part_of.ensures
+    (at_block c.requires.whole c.args.x c.args.d c.requires.block).there
 
 pub members-members-requires : goal.members-members-requires
 members-members-requires c =
     let is = read_block c.args.x c.args.d c.given.ensures c.part_of.ensures c.block_of-block.ensures in
-    members_there c.requires.whole c.requires.method c.args.x c.args.d c.requires.block is c.args.family.now c.requires.family c.len.ensures
+    members_there c.requires.whole c.requires.method c.args.x c.args.d c.requires.block is c.args.family.now
+    c.requires.family c.len.ensures
 
 pub check_cover_at-requires-clause-tuples : goal.check_cover_at-requires-clause-tuples
 check_cover_at-requires-clause-tuples c =
     let is = read_block c.args.x c.args.d c.given.ensures c.part_of.ensures c.block_of-block.ensures in
     let members = c.members-members.ensures in
     member_tuples c.requires.whole c.requires.method c.args.d c.requires.block.1 c.args.x
-    (members_same c.requires.whole c.requires.method c.args.x c.args.d c.requires.block is c.args.family.now c.requires.family members.count members.family c.len.ensures)
+    (members_same c.requires.whole c.requires.method c.args.x c.args.d c.requires.block is c.args.family.now
+    c.requires.family members.count members.family c.len.ensures)
 
 pub check_cover_at-requires-clause-count : goal.check_cover_at-requires-clause-count
 check_cover_at-requires-clause-count c =
     let is = read_block c.args.x c.args.d c.given.ensures c.part_of.ensures c.block_of-block.ensures in
     let members = c.members-members.ensures in
-    let same = members_same c.requires.whole c.requires.method c.args.x c.args.d c.requires.block is c.args.family.now c.requires.family members.count members.family c.len.ensures in
-    subst (λ (m : Method). c.members-members.result.count ≡ (tuples_at (graph_in c.args.s.now) m (cert_in c.args.s.now) c.args.x c.args.d).count) (sym c.requires.method) same.count
+    let same = members_same c.requires.whole c.requires.method c.args.x c.args.d c.requires.block is c.args.family.now
+    c.requires.family members.count members.family c.len.ensures in
+    subst (λ (m : Method). c.members-members.result.count
+    ≡ (tuples_at (graph_in c.args.s.now) m (cert_in c.args.s.now) c.args.x c.args.d).count) (sym c.requires.method)
+    same.count
 
 pub check_cover_at-requires-clause-same : goal.check_cover_at-requires-clause-same
 check_cover_at-requires-clause-same c =
     let is = read_block c.args.x c.args.d c.given.ensures c.part_of.ensures c.block_of-block.ensures in
     let members = c.members-members.ensures in
-    let same = members_same c.requires.whole c.requires.method c.args.x c.args.d c.requires.block is c.args.family.now c.requires.family members.count members.family c.len.ensures in
-    subst (λ (m : Method). (r : CoverFault) → CoverCompares (graph_in c.args.s.now) (parts_sheaf (graph_in c.args.s.now) (cert_in c.args.s.now)) c.args.x c.args.d (first_members c.members-members.result.count (list_of c.members-members.result.family.now)) (block_of (cert_in c.args.s.now) c.args.x c.args.d).cover r
+    let same = members_same c.requires.whole c.requires.method c.args.x c.args.d c.requires.block is c.args.family.now
+    c.requires.family members.count members.family c.len.ensures in
+    subst (λ (m : Method). (r : CoverFault) →
+    CoverCompares (graph_in c.args.s.now) (parts_sheaf (graph_in c.args.s.now) (cert_in c.args.s.now)) c.args.x
+    c.args.d (first_members c.members-members.result.count (list_of c.members-members.result.family.now))
+    (block_of (cert_in c.args.s.now) c.args.x c.args.d).cover r
     ↔ CoverComparesAt (graph_in c.args.s.now) m (cert_in c.args.s.now) c.args.x c.args.d r) (sym c.requires.method)
     (same_comparisons c.requires.whole c.requires.method c.args.d c.requires.block.1 c.args.x same)
 
 pub returns-in_err-check_cover_at-clause-first : goal.returns-in_err-check_cover_at-clause-first
 returns-in_err-check_cover_at-clause-first c =
     let p = err_from_is_err_and c.from_residual.result c.from_residual.ensures.1 in
-    rw (p.1, p.2) (cover_first (graph_in c.args.s.now) (cert_in c.args.s.now) c.args.x c.args.d c.in_err-check_cover_at.field-0.0 c.requires.method c.in_err-check_cover_at.ensures.first)
+    rw (p.1, p.2) (cover_first (graph_in c.args.s.now) (cert_in c.args.s.now) c.args.x c.args.d
+    c.in_err-check_cover_at.field-0.0 c.requires.method c.in_err-check_cover_at.ensures.first)
 
 pub of-boundary-requires-clause-vertex : goal.of-boundary-requires-clause-vertex
 of-boundary-requires-clause-vertex c =
-    let at = read_at c.requires.method c.sheaf-sheaf.ensures (at_block c.requires.whole c.args.x c.args.d c.requires.block) in
+    let at = read_at c.requires.method c.sheaf-sheaf.ensures
+    (at_block c.requires.whole c.args.x c.args.d c.requires.block) in
     (has_stalks at).there
 
 pub of-boundary-requires-clause-degree : goal.of-boundary-requires-clause-degree
 of-boundary-requires-clause-degree c =
-    let at = read_at c.requires.method c.sheaf-sheaf.ensures (at_block c.requires.whole c.args.x c.args.d c.requires.block) in
+    let at = read_at c.requires.method c.sheaf-sheaf.ensures
+    (at_block c.requires.whole c.args.x c.args.d c.requires.block) in
     (has_stalks at).degree
 
 pub of-boundary-requires-clause-few_rows : goal.of-boundary-requires-clause-few_rows
 of-boundary-requires-clause-few_rows c =
-    let at = read_at c.requires.method c.sheaf-sheaf.ensures (at_block c.requires.whole c.args.x c.args.d c.requires.block) in
+    let at = read_at c.requires.method c.sheaf-sheaf.ensures
+    (at_block c.requires.whole c.args.x c.args.d c.requires.block) in
     (has_stalks at).few_on_boundary
 
 pub of-boundary-requires-clause-few_cols : goal.of-boundary-requires-clause-few_cols
 of-boundary-requires-clause-few_cols c =
-    let at = read_at c.requires.method c.sheaf-sheaf.ensures (at_block c.requires.whole c.args.x c.args.d c.requires.block) in
+    let at = read_at c.requires.method c.sheaf-sheaf.ensures
+    (at_block c.requires.whole c.args.x c.args.d c.requires.block) in
     (has_stalks at).few
 
 pub check_kernel_at-requires-clause-matrix : goal.check_kernel_at-requires-clause-matrix
 check_kernel_at-requires-clause-matrix c =
-    let at = read_at c.requires.method c.sheaf-sheaf.ensures (at_block c.requires.whole c.args.x c.args.d c.requires.block) in
+    let at = read_at c.requires.method c.sheaf-sheaf.ensures
+    (at_block c.requires.whole c.args.x c.args.d c.requires.block) in
     let rows = c.of-boundary.ensures in
     boundaries_are at (boundaries_read rows.sheaf rows.vertex rows.degree)
-    ∙ ap (λ (m : Method). matrix_at (graph_in c.args.s.now) m (cert_in c.args.s.now) c.args.x c.args.d) (sym c.requires.method)
+    ∙ ap (λ (m : Method). matrix_at (graph_in c.args.s.now) m (cert_in c.args.s.now) c.args.x c.args.d)
+    (sym c.requires.method)
 
 pub returns-clause-ok : goal.returns-clause-ok
-returns-clause-ok c = on_ok_weaker c.check_kernel_at.result (λ h. (h, c.in_ok-check_cover_at.ensures.ok)) c.check_kernel_at.ensures.ok
+returns-clause-ok c =
+    on_ok_weaker c.check_kernel_at.result (λ h. (h, c.in_ok-check_cover_at.ensures.ok)) c.check_kernel_at.ensures.ok
 
 pub returns-clause-first : goal.returns-clause-first
 returns-clause-first c =
     MatchResult-weaker c.check_kernel_at.result c.check_kernel_at.ensures.first (λ u h. h)
-    (λ r h. kernel_second (graph_in c.args.s.now) (cert_in c.args.s.now) c.args.x c.args.d r c.requires.method c.in_ok-check_cover_at.ensures.ok h)
+    (λ r h. kernel_second (graph_in c.args.s.now) (cert_in c.args.s.now) c.args.x c.args.d r c.requires.method
+    c.in_ok-check_cover_at.ensures.ok h)

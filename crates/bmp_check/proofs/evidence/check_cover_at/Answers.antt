@@ -7,21 +7,26 @@ use Rattle.bmp_check.proofs.InputLemmas.{at_block, read_there, read_block, has_s
 use Rattle.bmp_check.proofs.evidence.check_cover_at.Goals as goal
 
 pub block_of-block-requires : goal.block_of-block-requires
-block_of-block-requires g c = read_there c.args.x c.args.d c.given.ensures c.part_of.ensures (at_block c.requires.whole c.args.x c.args.d c.requires.block).there
+block_of-block-requires g c =
+    read_there c.args.x c.args.d c.given.ensures c.part_of.ensures
+    (at_block c.requires.whole c.args.x c.args.d c.requires.block).there
 
 pub check_cover-requires-clause-stalks : goal.check_cover-requires-clause-stalks
 check_cover-requires-clause-stalks g c =
-    subst (λ (t : SheafState PrimeField). HasStalks t c.args.x c.args.d) (sym c.sheaf.ensures) (has_stalks (at_block c.requires.whole c.args.x c.args.d c.requires.block))
+    subst (λ (t : SheafState PrimeField). HasStalks t c.args.x c.args.d) (sym c.sheaf.ensures)
+    (has_stalks (at_block c.requires.whole c.args.x c.args.d c.requires.block))
 
 pub check_cover-requires-clause-tuples : goal.check_cover-requires-clause-tuples
 check_cover-requires-clause-tuples g c =
-    subst (λ (t : SheafState PrimeField). HasTuples t c.args.x c.args.d (g.T.Sections.list c.args.tuples.now)) (sym c.sheaf.ensures) c.requires.tuples
+    subst (λ (t : SheafState PrimeField). HasTuples t c.args.x c.args.d (g.T.Sections.list c.args.tuples.now))
+    (sym c.sheaf.ensures) c.requires.tuples
 
 pub check_cover-requires-clause-fits : goal.check_cover-requires-clause-fits
 check_cover-requires-clause-fits g c =
     let at = at_block c.requires.whole c.args.x c.args.d c.requires.block in
     let is = read_block c.args.x c.args.d c.given.ensures c.part_of.ensures c.block_of-block.ensures in
-    subst (λ (t : SheafState PrimeField). CoverFits t c.args.x c.args.d (g.T.Sections.list c.args.tuples.now).count c.block_of-block.result.now.cover) (sym c.sheaf.ensures)
+    subst (λ (t : SheafState PrimeField). CoverFits t c.args.x c.args.d (g.T.Sections.list c.args.tuples.now).count
+    c.block_of-block.result.now.cover) (sym c.sheaf.ensures)
     (cover_fits at is c.requires.count)
 
 pub check_cover-requires-clause-room : goal.check_cover-requires-clause-room
@@ -38,10 +43,14 @@ returns-in-Ok-clause-ok g c =
 pub returns-in-Err-clause-first : goal.returns-in-Err-clause-first
 returns-in-Err-clause-first g c =
     let at = at_block c.requires.whole c.args.x c.args.d c.requires.block in
-    let is = read_block c.args.x c.args.d c.given.ensures c.part_of.ensures c.block_of-block.ensures in
-    (c.in-Err.fault, cover_first at is c.sheaf.ensures c.requires.same c.in-Err.fault c.in-Err.ensures.fault, c.cover_refusal.ensures)
+    let is = read_block c.args.x c.args.d c.given.ensures c.part_of.ensures c.block_of-block.ensures in (
+      c.in-Err.fault,
+      cover_first at is c.sheaf.ensures c.requires.same c.in-Err.fault c.in-Err.ensures.fault,
+      c.cover_refusal.ensures,
+    )
 
 pub returns-in-Err-clause-differ : goal.returns-in-Err-clause-differ
 returns-in-Err-clause-differ g c =
     let refusal = c.cover_refusal.ensures in
-    λ same. c.in-Err.ensures.fault.differs (sym (ap (λ (r : Refusal). r.left) refusal) ∙ same ∙ ap (λ (r : Refusal). r.right) refusal)
+    λ same. c.in-Err.ensures.fault.differs (sym (ap (λ (r : Refusal). r.left) refusal) ∙ same
+    ∙ ap (λ (r : Refusal). r.right) refusal)

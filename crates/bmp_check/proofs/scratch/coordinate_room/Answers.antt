@@ -10,8 +10,10 @@ pub degrees-preserved : goal.degrees-preserved
 degrees-preserved c =
     let s = c.sheaf-sheaf.result.now in
     below_more (λ (e : ℕ). IsRoom s e c.max-most.result) c.degrees.d
-    (λ e below. room_more s e c.degrees.most c.max-most.result (omega (arith, c.max-most.ensures)) (c.degrees.invariant e below))
-    (room_more s c.degrees.d c.scratch_len.result c.max-most.result (omega (arith, c.max-most.ensures)) c.scratch_len.ensures.room)
+    (λ e below. room_more s e c.degrees.most c.max-most.result (omega (arith, c.max-most.ensures))
+    (c.degrees.invariant e below))
+    (room_more s c.degrees.d c.scratch_len.result c.max-most.result (omega (arith, c.max-most.ensures))
+    c.scratch_len.ensures.room)
 
 pub returns-clause-stalks : goal.returns-clause-stalks
 returns-clause-stalks c =
@@ -20,7 +22,9 @@ returns-clause-stalks c =
     let s = c.sheaf-sheaf.result.now in
     let of = subst (λ (t : SheafState PrimeField). IsSheafOf G cert t) (sym c.sheaf-sheaf.ensures) c.requires.sheaf in
     λ x d vertex degree.
-    (written_room G cert c.requires.count s of c.degrees.most (λ e le. c.degrees.invariant e (omega (arith, le, of.degree, c.degree-degree.ensures.degree))) x d vertex degree).0
+    (written_room G cert c.requires.count s of c.degrees.most
+    (λ e le. c.degrees.invariant e (omega (arith, le, of.degree, c.degree-degree.ensures.degree))) x d vertex
+    degree).0
 
 pub returns-clause-boundaries : goal.returns-clause-boundaries
 returns-clause-boundaries c =
@@ -29,4 +33,6 @@ returns-clause-boundaries c =
     let s = c.sheaf-sheaf.result.now in
     let of = subst (λ (t : SheafState PrimeField). IsSheafOf G cert t) (sym c.sheaf-sheaf.ensures) c.requires.sheaf in
     λ x d vertex degree.
-    (written_room G cert c.requires.count s of c.degrees.most (λ e le. c.degrees.invariant e (omega (arith, le, of.degree, c.degree-degree.ensures.degree))) x d vertex degree).1
+    (written_room G cert c.requires.count s of c.degrees.most
+    (λ e le. c.degrees.invariant e (omega (arith, le, of.degree, c.degree-degree.ensures.degree))) x d vertex
+    degree).1

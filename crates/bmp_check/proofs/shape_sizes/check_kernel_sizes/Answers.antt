@@ -10,11 +10,13 @@ returns-in_err-each_at_most-clause-compares c =
     let r = c.in_err-each_at_most.field-0.0 in
     let p = err_from_is_err_and c.from_residual.result c.from_residual.ensures.1 in
     exit_compares c.args.at.now c.each_at_most.new.self (kernel_sizes n e) c.from_residual.result p.0 r p.1 p.2
-    (stops c.args.at.now (each_at_most e.basis n.columns) (each_at_most e.rows n.rows) r c.in_err-each_at_most.ensures.compares)
+    (stops c.args.at.now (each_at_most e.basis n.columns) (each_at_most e.rows n.rows) r
+    c.in_err-each_at_most.ensures.compares)
 
 pub returns-clause-compares : goal.returns-clause-compares
 returns-clause-compares c =
     let n = c.args.n.now in
     let e = c.args.e.now in
-    then_compares c.args.at.now c.each_at_most.new.self c.each_at_most-2.new.self (each_at_most e.basis n.columns) (each_at_most e.rows n.rows)
+    then_compares c.args.at.now c.each_at_most.new.self c.each_at_most-2.new.self (each_at_most e.basis n.columns)
+    (each_at_most e.rows n.rows)
     c.each_at_most-2.result c.in_ok-each_at_most.ensures.compares c.each_at_most-2.ensures.compares

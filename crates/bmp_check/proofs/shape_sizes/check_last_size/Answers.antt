@@ -7,4 +7,5 @@ returns c =
     let n = c.args.n.now in
     let end = c.at_most.new.self in
     compares_as c.args.at.now end (λ k. at_most (largest n) k) c.from.result limit c.at_most.result c.from.ensures
-    (compares_as c.args.at.now end (λ k. at_most k c.from.result) c.largest.result (largest n) c.at_most.result c.largest.ensures c.at_most.ensures.compares)
+    (compares_as c.args.at.now end (λ k. at_most k c.from.result) c.largest.result (largest n) c.at_most.result
+    c.largest.ensures c.at_most.ensures.compares)

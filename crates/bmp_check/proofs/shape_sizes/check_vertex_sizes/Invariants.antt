@@ -8,6 +8,7 @@ use Rattle.bmp_check.proofs.shape_sizes.check_vertex_sizes.Given as goal
 -- the lifts so far have passed
 abbrev pub invariant-lifts : goal.invariant-lifts
 invariant-lifts l = record {
-  passed : Passed l.initial.at l.at (take l.i (listed (lift_size l.graph (written_in l.c) l.x) (length (part_of (written_in l.c) l.x).lifts)));
+  passed : Passed l.initial.at l.at
+      (take l.i (listed (lift_size l.graph (written_in l.c) l.x) (length (part_of (written_in l.c) l.x).lifts)));
   index : l.at.index ≡ l.initial.at.index + l.i;
 }

@@ -17,5 +17,6 @@ check_graph-requires-clause-checkable g c = λ ks lives.
     job_is_checkable cert prepared.interval prepared.graph c.requires.formed
     (subst (λ (j : Job). ∥ IsPrepared j prepared.interval prepared.graph ∥₁) same prepared.prepared)
     (subst (λ (j : Job). ∥ KeepsAll rules j ∥₁) same c.args.a.now.keeps) in
-    subst (λ (n : ℕ). IsCheckable c.graph.result.now cert.version (record { degree = n; parts = cert.vertices })) (sym c.from.ensures)
+    subst (λ (n : ℕ). IsCheckable c.graph.result.now cert.version (record { degree = n; parts = cert.vertices }))
+    (sym c.from.ensures)
     (subst (λ (H : Graph). IsCheckable H cert.version (written_by cert)) (sym c.graph.ensures.value) on_job)

@@ -11,7 +11,8 @@ returns-clause-passes g c =
     let w : Written = record { degree = c.args.degree; parts = c.args.parts.now } in
     let shaped = c.in_ok-shaped.ensures in
     let set = c.in_ok-setting.ensures.shaped in
-    all_pass c.args.graph.now c.args.version w (ap graph_in set ∙ shaped.graph) (ap version_in set ∙ shaped.version) (ap cert_in set ∙ shaped.cert) c.in_ok-sizes.ensures.count c.in_ok-sizes.ensures.shape
+    all_pass c.args.graph.now c.args.version w (ap graph_in set ∙ shaped.graph) (ap version_in set ∙ shaped.version)
+    (ap cert_in set ∙ shaped.cert) c.in_ok-sizes.ensures.count c.in_ok-sizes.ensures.shape
     c.in_ok-check_top.ensures.first c.in_ok-check_blocks.ensures.ok
 
 pub returns-clause-sheaf : goal.returns-clause-sheaf
@@ -38,8 +39,9 @@ returns-in_err-check_blocks-clause-refused g c =
     let p =
     err_from_is_err_and c.from_residual-in_err-check_blocks.result c.from_residual-in_err-check_blocks.ensures.1 in
     rw (p.1, p.2) (
-      block_refused c.args.graph.now c.args.version w (ap graph_in set ∙ shaped.graph) (ap version_in set ∙ shaped.version) (ap cert_in set ∙ shaped.cert) r
-      c.in_ok-sizes.ensures.count
-      c.in_ok-sizes.ensures.shape c.in_ok-check_top.ensures.first c.in_err-check_blocks.ensures.first,
+      block_refused c.args.graph.now c.args.version w (ap graph_in set ∙ shaped.graph)
+          (ap version_in set ∙ shaped.version) (ap cert_in set ∙ shaped.cert) r
+          c.in_ok-sizes.ensures.count
+          c.in_ok-sizes.ensures.shape c.in_ok-check_top.ensures.first c.in_err-check_blocks.ensures.first,
       c.in_err-check_blocks.ensures.differ,
     )

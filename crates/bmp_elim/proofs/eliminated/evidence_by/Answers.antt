@@ -12,7 +12,8 @@ returns g c = λ old reduced.
     let rows : AreRowVectors p (g.A.Rows.matrix e.trace) 0 (length e.pivots) c.in_ok-combinations.combinations = rw
     (← c.len.ensures) c.in_ok-combinations.ensures in
     let basis : IsBasisBelow p (g.A.Rows.matrix e.rows) e.pivots (g.A.Rows.matrix e.rows).cols c.in_ok-basis.basis =
-    subst (λ n. IsBasisBelow p (g.A.Rows.matrix e.rows) e.pivots n c.in_ok-basis.basis) c.cols.ensures c.in_ok-basis.ensures in
+    subst (λ n. IsBasisBelow p (g.A.Rows.matrix e.rows) e.pivots n c.in_ok-basis.basis) c.cols.ensures
+    c.in_ok-basis.ensures in
     rw c.in_ok-pivots.ensures
     (evidence_made p old (g.A.Rows.matrix e.rows) (g.A.Rows.matrix e.trace) e.pivots c.in_ok-basis.basis
     c.in_ok-combinations.combinations two reduced.trace reduced.echelon basis rows)

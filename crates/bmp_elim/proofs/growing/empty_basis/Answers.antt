@@ -14,6 +14,7 @@ returns-clause-some g c =
     let none : Matrix = record { rows = 0; cols = c.args.cols; entry = λ i j. 0 } in
     record {
       old = none;
-      grown = rw (c.new.ensures, c.new-2.ensures) (grown_none refl refl c.empty.ensures.rows c.empty-2.ensures.rows c.empty.ensures.cols
+      grown = rw (c.new.ensures, c.new-2.ensures)
+          (grown_none refl refl c.empty.ensures.rows c.empty-2.ensures.rows c.empty.ensures.cols
           c.empty-2.ensures.cols);
     }

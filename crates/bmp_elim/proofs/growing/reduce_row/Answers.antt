@@ -21,7 +21,8 @@ loop-k-preserved g c =
       | then-num-ne0 w ↦
           rw (w.numbers-is, w.factors-is)
           (remainder_more c.requires.leading c.loop-k.invariant within (g.F.Field.num c.args.f.now w.neg-c.result) _ _
-          (omega arith) (ap (λ x. (x + g.F.Field.num c.args.f.now w.neg-c.result) % p) (sym at) ∙ w.neg-c.ensures.number)
+          (omega arith) (ap (λ x. (x + g.F.Field.num c.args.f.now w.neg-c.result) % p) (sym at)
+          ∙ w.neg-c.ensures.number)
           w.add_row_to.ensures w.add_row_to-then-num-ne0.ensures)
       | else-num-ne0 w ↦
           rw (w.numbers-is, w.factors-is)

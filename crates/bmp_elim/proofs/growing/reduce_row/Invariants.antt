@@ -4,4 +4,5 @@ use Rattle.bmp_elim.proofs.growing.reduce_row.Given as goal
 
 -- the row is reduced at the places that were passed
 abbrev pub invariant-loop-k : goal.invariant-loop-k
-invariant-loop-k g l = IsRemainder (g.F.Field.size l.f) l.k (g.A.Rows.matrix l.rows) (g.A.Rows.matrix l.trace) l.pivots (λ j. get_or l.fn.numbers j 0) l.numbers l.factors
+invariant-loop-k g l = IsRemainder (g.F.Field.size l.f) l.k (g.A.Rows.matrix l.rows) (g.A.Rows.matrix l.trace) l.pivots
+    (λ j. get_or l.fn.numbers j 0) l.numbers l.factors

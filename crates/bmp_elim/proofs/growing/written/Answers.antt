@@ -55,7 +55,8 @@ returns-in_ok-vector-in-None g c = λ old h.
     c.reduce_row.new.numbers c.reduce_row.new.factors =
     remainder_as (λ j l. c.spread.ensures j (omega (arith, c.requires.width, c.spread.auto.into, l)))
     c.reduce_row.ensures in
-    let negated : IsNegated p (length c.args.basis.now.chosen) c.reduce_row.new.factors c.in_ok-vector-in-None.vector = rw (←
+    let negated : IsNegated p (length c.args.basis.now.chosen) c.reduce_row.new.factors c.in_ok-vector-in-None.vector =
+    rw (←
     c.len.ensures) c.in_ok-vector-in-None.ensures in
     writes_made
     (written_by_chosen two h (pushed_made old (number_at c.args.row.now)) left c.in-None.ensures wide) negated

@@ -7,4 +7,5 @@ use Rattle.bmp_report.proofs.graph.push_edges.Goals as goal
 pub edges-preserved : goal.edges-preserved
 edges-preserved c =
     rw c.in_ok-push_edge.ensures
-    (range_on (edge_line c.args.graph.now) c.edges.out.items _ c.edges.e (edge_count c.args.graph.now - c.edges.e) (edge_count c.args.graph.now - (c.edges.e + 1)) (omega (arith, c.edges-e-end.ensures.count)) c.edges.invariant)
+    (range_on (edge_line c.args.graph.now) c.edges.out.items _ c.edges.e (edge_count c.args.graph.now - c.edges.e)
+    (edge_count c.args.graph.now - (c.edges.e + 1)) (omega (arith, c.edges-e-end.ensures.count)) c.edges.invariant)

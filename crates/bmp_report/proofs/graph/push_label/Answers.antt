@@ -9,6 +9,10 @@ pub coordinates-preserved : goal.coordinates-preserved
 coordinates-preserved c =
     let place : c.coordinates.i + 1 - 1 ≡ c.coordinates.i = omega arith in
     let is : c.from.result ≡ label c.args.graph.now c.args.e c.coordinates.i =
-    c.from.ensures ∙ (c.coordinate.ensures ∙ (ap (λ (k : ℕ). coordinate_of c.edge-edge.result.now.label k) place ∙ ap (λ (f : ℕ → ℕ). f c.coordinates.i) c.edge-edge.ensures.label)) in
+    c.from.ensures ∙ (c.coordinate.ensures
+    ∙ (ap (λ (k : ℕ). coordinate_of c.edge-edge.result.now.label k) place
+    ∙ ap (λ (f : ℕ → ℕ). f c.coordinates.i) c.edge-edge.ensures.label)) in
     rw (c.in_ok-push_number.ensures.ok, is)
-    (range_words_on (λ i. decimal (label c.args.graph.now c.args.e i)) c.coordinates.out.items _ c.coordinates.i (c.rank-rank.result - c.coordinates.i) (c.rank-rank.result - (c.coordinates.i + 1)) (omega arith) c.coordinates.invariant)
+    (range_words_on (λ i. decimal (label c.args.graph.now c.args.e i)) c.coordinates.out.items _ c.coordinates.i
+    (c.rank-rank.result - c.coordinates.i) (c.rank-rank.result - (c.coordinates.i + 1)) (omega arith)
+    c.coordinates.invariant)

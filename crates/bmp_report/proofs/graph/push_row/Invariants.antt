@@ -6,4 +6,6 @@ use Rattle.bmp_report.specs.GraphText.{row_words}
 use Rattle.bmp_report.proofs.graph.push_row.Given as goal
 
 abbrev pub invariant-columns : goal.invariant-columns
-invariant-columns l = l.out.items ++ spaced_words (range_text (λ j. signed_decimal (cell l.e.entries l.i j) ∷ []) l.j (l.rank - l.j)) ≡ l.initial.out.items ++ spaced_words (row_words l.rank l.e l.i)
+invariant-columns l =
+    l.out.items ++ spaced_words (range_text (λ j. signed_decimal (cell l.e.entries l.i j) ∷ []) l.j (l.rank - l.j))
+    ≡ l.initial.out.items ++ spaced_words (row_words l.rank l.e l.i)

@@ -5,4 +5,8 @@ use Rattle.bmp_text.proofs.PrintingLoops.{range_words_on}
 use Rattle.bmp_report.proofs.ranks.push_counts.Goals as goal
 
 pub degrees-preserved : goal.degrees-preserved
-degrees-preserved c = rw (c.in_ok-push_number.ensures.ok, c.from.ensures, c.count.ensures) (range_words_on (λ d. decimal (rank_in c.args.r.now c.args.x d)) c.degrees.out.items _ c.degrees.d (c.degree-bound.result + 1 - c.degrees.d) (c.degree-bound.result + 1 - (c.degrees.d + 1)) (omega arith) c.degrees.invariant)
+degrees-preserved c =
+    rw (c.in_ok-push_number.ensures.ok, c.from.ensures, c.count.ensures)
+    (range_words_on (λ d. decimal (rank_in c.args.r.now c.args.x d)) c.degrees.out.items _ c.degrees.d
+    (c.degree-bound.result + 1 - c.degrees.d) (c.degree-bound.result + 1 - (c.degrees.d + 1)) (omega arith)
+    c.degrees.invariant)

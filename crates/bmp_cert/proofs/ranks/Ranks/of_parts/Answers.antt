@@ -6,7 +6,8 @@ use Rattle.bmp_cert.proofs.ranks.Ranks.of_parts.Goals as goal
 pub invariant_of-result : goal.invariant_of-result
 invariant_of-result c =
     let w : Written = record { degree = c.args.degree; parts = c.args.parts.now } in
-    let size : length c.in_ok-numbers.numbers.items ≡ length w.parts * (w.degree + 1) = ap length c.in_ok-numbers.ensures ∙ length-all_counts w (length w.parts) in
+    let size : length c.in_ok-numbers.numbers.items ≡ length w.parts * (w.degree + 1) =
+    ap length c.in_ok-numbers.ensures ∙ length-all_counts w (length w.parts) in
     (c.requires, size ∙ ap (λ (n : ℕ). n * (w.degree + 1)) (sym c.len.ensures))
 
 pub returns : goal.returns

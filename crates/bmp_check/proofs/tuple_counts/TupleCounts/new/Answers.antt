@@ -9,5 +9,7 @@ degrees-preserved c =
     let G = c.args.graph.now in
     let m = method_in c.args.c.now in
     let w = written_in c.args.c.now in
-    let counted = subst (λ (ns : List ℕ). CountsDegree G m w c.degrees.d ns) (sym c.deref.ensures.value) c.in_ok-degree_counts.ensures in
-    counts_more G m w c.degrees.d c.degrees.numbers.items c.deref.result.now c.in_ok-extend_from_slice.ensures.items counted c.degrees.invariant
+    let counted = subst (λ (ns : List ℕ). CountsDegree G m w c.degrees.d ns) (sym c.deref.ensures.value)
+    c.in_ok-degree_counts.ensures in
+    counts_more G m w c.degrees.d c.degrees.numbers.items c.deref.result.now c.in_ok-extend_from_slice.ensures.items
+    counted c.degrees.invariant
