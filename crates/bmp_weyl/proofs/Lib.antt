@@ -8,3 +8,5 @@ pub mod ReflectingLemmas
 pub mod ElementLemmas
 pub mod CallLemmas
 pub mod OneLength
+pub mod SimpleLemmas
+pub mod DescentWordLemmas

@@ -4,3 +4,5 @@ pub mod Matrices
 pub mod Elements
 pub mod ElementStatements
 pub mod LengthStatements
+pub mod SimpleProducts
+pub mod SimpleStatements

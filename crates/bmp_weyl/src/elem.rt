@@ -6,6 +6,7 @@ ghost use Rattle.bmp_roots.specs.Pairs.{coordinates};
 use crate::letters::Letters;
 use crate::matrix::{Entries, identity_entries, makes_negative, product_entries};
 use crate::reflecting::reflection_entries;
+use crate::simple::times_entries;
 use bmp_roots::Roots;
 use std::alloc::{AllocError, Global};
 
@@ -37,6 +38,8 @@ impl Elem {
     ghost use Rattle.bmp_roots.specs.RootSystems.{matrix_of, positives, positive_roots_of};
     ghost use Rattle.bmp_roots.specs.declared.root_pair.Pair.{Pair};
     ghost use Rattle.bmp_weyl.specs.Words.{acts, IsRootSystem, length_of, IsReduced, IsRightDescent, IsLeastDescent, IsDescentWord};
+    ghost use Rattle.std.specs.Prelude.{true, false};
+    ghost use Rattle.bmp_weyl.specs.SimpleProducts.{times_simple, has_negative_column};
     ghost use Rattle.bmp_weyl.specs.Elements.{rank_of, IsProduct, IsElement, IsElementOfOne, AreElementsOfOne, IsReflection, element_length, word_of, IsLetter};
 
     /// The identity, the product of no letters.
@@ -102,6 +105,27 @@ impl Elem {
         Elem {
             rank: self.rank,
             entries: product_entries(&self.entries, &other.entries),
+        }
+    }
+
+    /// The product with the simple reflection k, from 1, on the right, in 36 steps. It is one shorter where column k has an entry
+    /// below 0, and else one longer. The same product once more gives the element back.
+    pub fn times_simple(&self, roots: &Roots, k: u8) -> Elem
+        requires element { IsElement (matrix_of roots.now) self.now }
+        requires letter { IsLetter (matrix_of roots.now).rank k }
+        ensures value { result ≡ times_simple (matrix_of roots.now) self.now (k - 1) }
+        ensures element { IsElement (matrix_of roots.now) result }
+        ensures product { (u : List ℕ) → IsProduct (matrix_of roots.now) u self.now
+            → IsProduct (matrix_of roots.now) (u ++ (k - 1) ∷ []) result }
+        ensures twice { times_simple (matrix_of roots.now) result (k - 1) ≡ self.now }
+        ensures shorter { has_negative_column (matrix_of roots.now) self.now (k - 1) ≡ true
+            → element_length (positive_roots_of roots.now) result + 1 ≡ element_length (positive_roots_of roots.now) self.now }
+        ensures longer { has_negative_column (matrix_of roots.now) self.now (k - 1) ≡ false
+            → element_length (positive_roots_of roots.now) result ≡ element_length (positive_roots_of roots.now) self.now + 1 }
+    {
+        Elem {
+            rank: self.rank,
+            entries: times_entries(roots.cartan(), &self.entries, k as usize - 1),
         }
     }
 

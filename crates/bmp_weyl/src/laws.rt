@@ -1,6 +1,7 @@
 //! The laws of words and length, each the contract of a function without a body.
 ghost use Rattle.bmp_weyl.specs.Statements.{LengthChangesByOne, LengthAtMostLetters, LengthZeroIsIdentity, DescentIsNegativeColumn, NoDescentIsIdentity, LengthOfInverse, Exchange, Deletion, ReducedSubsequence, SubsequenceIsShorter, PrefixIsReduced, ReducedAtMost36, ReflectionIsElement, ReflectionKnowsRoot, ReflectionChangesLength};
 ghost use Rattle.bmp_weyl.specs.ElementStatements.{RootsAreSystem, ElementsOfEqualProducts, LengthOfElement};
+ghost use Rattle.bmp_weyl.specs.SimpleStatements.{TimesIsProduct, LetterTwiceCancels, TimesTwiceCancels, DescentTurns, OneDescentWord};
 ghost use Rattle.bmp_weyl.specs.LengthStatements.{WordHasOneLength, ElementHasOneLength};
 
 /// Each law of a finite root system holds of a `Roots`, with its positive roots by their numbers.
@@ -101,4 +102,29 @@ pub fn word_has_one_length()
 /// Each list of the positive roots of a Cartan matrix gives an element the same length.
 pub fn element_has_one_length()
     ensures { ElementHasOneLength }
+{}
+
+/// The product of an element with a simple reflection, by words.
+pub fn times_is_product()
+    ensures { TimesIsProduct }
+{}
+
+/// The same letter twice behind a word leaves its product as it was.
+pub fn letter_twice_cancels()
+    ensures { LetterTwiceCancels }
+{}
+
+/// The same simple reflection twice behind an element leaves it as it was.
+pub fn times_twice_cancels()
+    ensures { TimesTwiceCancels }
+{}
+
+/// Of an element and its product with a simple reflection one is shorter, by one.
+pub fn descent_turns()
+    ensures { DescentTurns }
+{}
+
+/// A product has one word of least right descents.
+pub fn one_descent_word()
+    ensures { OneDescentWord }
 {}

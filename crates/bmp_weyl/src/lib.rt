@@ -14,6 +14,7 @@ pub mod laws;
 pub mod letters;
 mod matrix;
 mod reflecting;
+mod simple;
 pub mod word;
 
 pub use elem::Elem;
