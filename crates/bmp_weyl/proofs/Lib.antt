@@ -10,3 +10,4 @@ pub mod CallLemmas
 pub mod OneLength
 pub mod SimpleLemmas
 pub mod DescentWordLemmas
+pub mod LoweredLemmas

@@ -6,3 +6,4 @@ pub mod ElementStatements
 pub mod LengthStatements
 pub mod SimpleProducts
 pub mod SimpleStatements
+pub mod Lowered

@@ -2,6 +2,7 @@
 ghost use Rattle.bmp_weyl.specs.Statements.{LengthChangesByOne, LengthAtMostLetters, LengthZeroIsIdentity, DescentIsNegativeColumn, NoDescentIsIdentity, LengthOfInverse, Exchange, Deletion, ReducedSubsequence, SubsequenceIsShorter, PrefixIsReduced, ReducedAtMost36, ReflectionIsElement, ReflectionKnowsRoot, ReflectionChangesLength};
 ghost use Rattle.bmp_weyl.specs.ElementStatements.{RootsAreSystem, ElementsOfEqualProducts, LengthOfElement};
 ghost use Rattle.bmp_weyl.specs.SimpleStatements.{TimesIsProduct, LetterTwiceCancels, TimesTwiceCancels, DescentTurns, OneDescentWord};
+ghost use Rattle.bmp_weyl.specs.Lowered.{StrongExchange, LoweredIsKept};
 ghost use Rattle.bmp_weyl.specs.LengthStatements.{WordHasOneLength, ElementHasOneLength};
 
 /// Each law of a finite root system holds of a `Roots`, with its positive roots by their numbers.
@@ -127,4 +128,14 @@ pub fn descent_turns()
 /// A product has one word of least right descents.
 pub fn one_descent_word()
     ensures { OneDescentWord }
+{}
+
+/// Where a subsequence makes a positive root negative, the reflection of that root behind it leaves a letter out.
+pub fn strong_exchange()
+    ensures { StrongExchange }
+{}
+
+/// What is below the product of a subsequence is the product of a subsequence.
+pub fn lowered_is_kept()
+    ensures { LoweredIsKept }
 {}

@@ -1,0 +1,5 @@
+pub mod ProductLemmas
+pub mod TableLemmas
+pub mod PowerLemmas
+pub mod IntervalLemmas
+pub mod DualityLemmas

@@ -1,0 +1,13 @@
+//! The Kazhdan-Lusztig table of a lower interval, and whether it is self-dual.
+#![tactic(auto)]
+
+pub mod duality;
+pub mod error;
+pub mod laws;
+pub mod not_dual;
+pub mod table;
+
+pub use duality::self_dual;
+pub use error::KlError;
+pub use not_dual::NotDual;
+pub use table::KlTable;
