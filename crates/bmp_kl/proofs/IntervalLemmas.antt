@@ -17,7 +17,7 @@ use Rattle.bmp_kl.specs.Tables.{IsTriangular}
 use Rattle.bmp_kl.specs.IntervalBars.{vertex_at, bars_of}
 
 module _ {m : CartanMatrix} {roots : List Vector} (system : IsRootSystem m roots) where
-  element_within : (e : Elem) → IsElement m e → element_length roots e ≤ 36
+  pub element_within : (e : Elem) → IsElement m e → element_length roots e ≤ 36
   element_within e (u, is) =
       let same : element_length roots e ≡ length_of m roots u = element_length-product m roots system u e is in
       let few : length_of m roots u ≤ 36 = length_at_most_36 m roots system u in

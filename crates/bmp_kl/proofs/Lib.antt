@@ -3,3 +3,7 @@ pub mod TableLemmas
 pub mod PowerLemmas
 pub mod IntervalLemmas
 pub mod DualityLemmas
+pub mod StepLemmas
+pub mod RowLemmas
+pub mod BarStepLemmas
+pub mod PartLemmas

@@ -2,6 +2,7 @@
 --   vertex_at m list x          vertex number x
 --   bars_of m roots list        their bars
 --   counts_of m roots list      the coefficients of their bars at the powers of v - v^-1
+--   counts_below m roots list y x d   the same, of the bar of vertex y
 use Rattle.std.specs.Prelude.{ℕ, List, slice_index_or}
 use Rattle.bmp_roots.specs.RootPairs.{CartanMatrix, Vector}
 use Rattle.bmp_weyl.specs.declared.elem.Elem.{Elem}
@@ -21,3 +22,6 @@ bars_of m roots list x y = bar_of (weyl_group m roots) (vertex_at m list y) (ver
 abbrev pub counts_of : CartanMatrix → List Vector → List Elem → ℕ → ℕ → ℕ → ℕ
 counts_of m roots list x y d =
     difference_steps (weyl_group m roots) (element_length roots (vertex_at m list y)) (vertex_at m list y) (vertex_at m list x) d
+
+abbrev pub counts_below : CartanMatrix → List Vector → List Elem → ℕ → ℕ → ℕ → ℕ
+counts_below m roots list y x d = counts_of m roots list x y d

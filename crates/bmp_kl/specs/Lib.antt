@@ -5,3 +5,8 @@ pub mod SumTables
 pub mod KlTables
 pub mod Duality
 pub mod Powers
+pub mod VertexProducts
+pub mod VertexSteps
+pub mod BarRows
+pub mod Descents
+pub mod PartLists

@@ -5,6 +5,9 @@ pub mod duality;
 pub mod error;
 pub mod laws;
 pub mod not_dual;
+mod parts;
+mod rows;
+mod steps;
 pub mod table;
 
 pub use duality::self_dual;
