@@ -7,3 +7,7 @@ pub mod StepLemmas
 pub mod RowLemmas
 pub mod BarStepLemmas
 pub mod PartLemmas
+pub mod FillLemmas
+pub mod HornerLemmas
+pub mod FillingLemmas
+pub mod CopyLemmas

@@ -10,3 +10,6 @@ pub mod VertexSteps
 pub mod BarRows
 pub mod Descents
 pub mod PartLists
+pub mod HornerRows
+pub mod Filled
+pub mod Fillings

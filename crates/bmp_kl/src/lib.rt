@@ -3,6 +3,9 @@
 
 pub mod duality;
 pub mod error;
+pub mod fill;
+mod filling;
+mod horner;
 pub mod laws;
 pub mod not_dual;
 mod parts;
@@ -12,5 +15,6 @@ pub mod table;
 
 pub use duality::self_dual;
 pub use error::KlError;
+pub use fill::kl_table;
 pub use not_dual::NotDual;
 pub use table::KlTable;

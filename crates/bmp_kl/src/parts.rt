@@ -1,5 +1,5 @@
 //! The parts of the sums q_x at the powers of v - v^-1.
-ghost use Rattle.std.specs.Prelude.{◌≡◌, ◌+◌, ◌*◌, ◌/◌, ◌^◌, ◌<◌, ◌≤◌, ℕ, pos, length, slice_index_or};
+ghost use Rattle.std.specs.Prelude.{◌≡◌, ◌+◌, ◌*◌, ◌/◌, ◌^◌, ◌<◌, ◌≤◌, ℕ, pos, ◌+ℤ◌, ◌*ℤ◌, length, slice_index_or};
 ghost use Rattle.bmp_math.specs.Integers.{IsWithin};
 ghost use Rattle.bmp_roots.specs.RootSystems.{matrix_of, positive_roots_of};
 ghost use Rattle.bmp_interval.specs.IntervalViews.{system_of, letters_of, vertices_of};
@@ -11,6 +11,16 @@ ghost use Rattle.bmp_kl.specs.PartLists.{part_at, IsRowAdded, IsTermAdded, IsBar
 use crate::rows::Rows;
 use crate::steps::Steps;
 use bmp_interval::Interval;
+
+#[inline]
+fn plus_product(part: i128, number: u64, top: i128) -> i128
+    requires part { IsWithin (2 ^ 69) part }
+    requires number { number ≤ 2 ^ 36 }
+    requires top { IsWithin 1000000 top }
+    ensures { result ≡ part +ℤ pos number *ℤ top }
+{
+    part + number as i128 * top
+}
 
 // Adds `top` times the numbers of row x to the parts from `start` on: number j at the power `gap` - 2 j.
 fn add_row(parts: &mut Vec<i128>, rows: &Rows, x: usize, start: usize, gap: usize, top: i128)
@@ -25,7 +35,8 @@ fn add_row(parts: &mut Vec<i128>, rows: &Rows, x: usize, start: usize, gap: usiz
 {
     if rows.live[x] {
         for j in 0..gap / 2 + 1 {
-            parts[start + gap - 2 * j] += rows.values[x * 19 + j] as i128 * top;
+            let place = start + gap - 2 * j;
+            parts[place] = plus_product(parts[place], rows.values[x * 19 + j], top);
         }
     }
 }

@@ -42,8 +42,8 @@ fn product_number(interval: &Interval, x: usize, k: usize) -> Option<usize>
     }
 }
 
-// The lengths of the vertices.
-fn vertex_lengths(alloc: Global, interval: &Interval) -> Result<Vec<u32>, AllocError>
+/// The lengths of the vertices.
+pub fn vertex_lengths(alloc: Global, interval: &Interval) -> Result<Vec<u32>, AllocError>
     ensures interval { IsIntervalOf (system_of interval.now) (letters_of interval.now) (vertices_of interval.now) }
     ensures lengths { IfOk result (λ lengths. lengths.items
         ≡ map (element_length (positive_roots_of (system_of interval.now))) (vertices_of interval.now)) }
