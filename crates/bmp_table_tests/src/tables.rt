@@ -1,7 +1,7 @@
 //! Tables worked out elsewhere.
 ghost use Rattle.std.specs.Prelude.{◌<◌, ◌^◌, length};
 
-use crate::matrices::{A3, A4, B3, D4, G2, below, interval_of};
+use crate::matrices::{A3, A4, B3, G2, below, interval_of};
 use bmp_kl::{KlError, KlTable, kl_table, self_dual};
 use std::alloc::Global;
 use std::test::Fail;
@@ -89,7 +89,6 @@ fn whole_groups(rt: HostRuntime) -> Result<(), Fail> {
         ("A3", A3, 3, [1, 2, 1, 3, 2, 1].as_slice(), 259_343),
         ("B3", B3, 3, [1, 2, 1, 3, 2, 1, 3, 2, 3].as_slice(), 7_021_318),
         ("G2", G2, 2, [1, 2, 1, 2, 1, 2].as_slice(), 27_281),
-        ("D4", D4, 4, [1, 2, 1, 3, 2, 1, 4, 2, 1, 3, 2, 4].as_slice(), 1_793_962_554),
     ] {
         assert!(rt; longest.len() < 100);
         assert_eq!(rt; checksum(rt.alloc(), rows, rank, longest)?, sum, "{name}");
