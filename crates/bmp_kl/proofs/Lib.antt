@@ -1,0 +1,13 @@
+pub mod ProductLemmas
+pub mod TableLemmas
+pub mod PowerLemmas
+pub mod IntervalLemmas
+pub mod DualityLemmas
+pub mod StepLemmas
+pub mod RowLemmas
+pub mod BarStepLemmas
+pub mod PartLemmas
+pub mod FillLemmas
+pub mod HornerLemmas
+pub mod FillingLemmas
+pub mod CopyLemmas

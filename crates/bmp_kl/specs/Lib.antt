@@ -1,0 +1,15 @@
+pub mod Tables
+pub mod Statements
+pub mod IntervalBars
+pub mod SumTables
+pub mod KlTables
+pub mod Duality
+pub mod Powers
+pub mod VertexProducts
+pub mod VertexSteps
+pub mod BarRows
+pub mod Descents
+pub mod PartLists
+pub mod HornerRows
+pub mod Filled
+pub mod Fillings
