@@ -15,20 +15,24 @@ pub copied_none : (start : ℕ) (source : ℕ → ℤ) (old : List ℤ) → IsCo
 copied_none start source old = record { as_long = refl; copied = λ i l. absurd (omega arith); kept = λ p off. refl }
 
 pub copied_next : (start n : ℕ) (source : ℕ → ℤ) (old first second : List ℤ) (v : ℤ) → IsCopied start n source old first
-    → second ≡ set first (start + n) v → start + n < length old → v ≡ source n → IsCopied start (n + 1) source old second
+    → second ≡ set first (start + n) v → start + n < length old → v ≡ source n →
+    IsCopied start (n + 1) source old second
 copied_next start n source old first second v before is inside value = record {
   as_long = ap length is ∙ length-set first (start + n) v ∙ before.as_long;
   copied = λ i l.
       elim (cases_eq i n) [
         | inl last ↦
             ap (λ xs. get_or xs (start + i) (pos 0)) is
-            ∙ get_or-set_at first (start + n) (start + i) v (pos 0) (omega arith) (omega (arith, before.as_long)) ∙ value ∙ ap source (sym last)
+            ∙ get_or-set_at first (start + n) (start + i) v (pos 0) (omega arith) (omega (arith, before.as_long))
+            ∙ value ∙ ap source (sym last)
         | inr other ↦
             ap (λ xs. get_or xs (start + i) (pos 0)) is
-            ∙ get_or-set_other first (start + n) (start + i) v (pos 0) (λ e. other (omega arith)) ∙ before.copied i (omega arith)
+            ∙ get_or-set_other first (start + n) (start + i) v (pos 0) (λ e. other (omega arith))
+            ∙ before.copied i (omega arith)
       ];
   kept = λ p off.
-      ap (λ xs. get_or xs p (pos 0)) is ∙ get_or-set_other first (start + n) p v (pos 0) (apart p off) ∙ before.kept p (less p off);
+      ap (λ xs. get_or xs p (pos 0)) is ∙ get_or-set_other first (start + n) p v (pos 0) (apart p off)
+      ∙ before.kept p (less p off);
 }
   where
     apart : (p : ℕ) → (p < start) ⊎ (start + (n + 1) ≤ p) → p ≡ start + n → ⊥

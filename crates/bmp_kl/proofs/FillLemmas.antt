@@ -22,7 +22,8 @@ use Rattle.bmp_kl.proofs.ProductLemmas.{chosen_same}
 use Rattle.bmp_kl.proofs.PowerLemmas.{sum_in_powers_is, horner_is}
 
 -- powers whose coefficients are 0 may be added
-longer_sum : (m n : ℕ) (s : ℕ → ℕ) (e : ℤ) → n ≤ m → ((d : ℕ) → n < d → s d ≡ 0) → difference_sum m s e ≡ difference_sum n s e
+longer_sum : (m n : ℕ) (s : ℕ → ℕ) (e : ℤ) → n ≤ m → ((d : ℕ) → n < d → s d ≡ 0) →
+    difference_sum m s e ≡ difference_sum n s e
 unfolding integer_sum
 longer_sum zero n s e low none = let same : 0 ≡ n = omega arith in ap (λ i. difference_sum i s e) same
 longer_sum (suc m) n s e low none =
@@ -30,7 +31,8 @@ longer_sum (suc m) n s e low none =
       | inl at ↦ ap (λ i. difference_sum i s e) (sym at)
       | inr other ↦
           let last : pos (s (suc m)) *ℤ difference_power (suc m) e ≡ pos 0 =
-          ap (λ z. pos z *ℤ difference_power (suc m) e) (none (suc m) (omega arith)) ∙ zero-mul (difference_power (suc m) e) in
+          ap (λ z. pos z *ℤ difference_power (suc m) e) (none (suc m) (omega arith))
+          ∙ zero-mul (difference_power (suc m) e) in
           ap₂ (λ a b. a +ℤ b) (longer_sum m n s e (omega arith) none) last ∙ add_none _
     ]
   where
@@ -66,7 +68,8 @@ chosen_next t x (suc n) below =
           (ap (λ b. if b then t n else pos 0) here ∙ ap t last) (ap (λ b. if b then t n else pos 0) off)
       | inr other ↦
           let more : nat_lt (suc x) n ≡ true = grind (arith, nat_tests) in
-          moved _ _ _ _ _ _ (chosen_next t x n (omega arith)) (ap (λ b. if b then t n else pos 0) here) (ap (λ b. if b then t n else pos 0) more)
+          moved _ _ _ _ _ _ (chosen_next t x n (omega arith)) (ap (λ b. if b then t n else pos 0) here)
+          (ap (λ b. if b then t n else pos 0) more)
     ]
   where
     added : (s p u q v : ℤ) → s ≡ pos 0 → p ≡ pos 0 → u ≡ v → q ≡ pos 0 → s +ℤ u ≡ (p +ℤ q) +ℤ v
@@ -89,7 +92,8 @@ pub part_none : (x n : ℕ) (h : ℕ → Laurent) (c : ℕ → ℕ → ℕ) (d :
 part_none x n h c d a low = chosen_none (λ y. flip (h y) a *ℤ pos (c y d)) x n low
 
 -- ---- Horner
-pub horner_same : (m : ℕ) (f g : ℕ → Laurent) → ((d : ℕ) (a : ℤ) → d ≤ m → f d a ≡ g d a) → (e : ℤ) → horner m f e ≡ horner m g e
+pub horner_same : (m : ℕ) (f g : ℕ → Laurent) → ((d : ℕ) (a : ℤ) → d ≤ m → f d a ≡ g d a) →
+    (e : ℤ) → horner m f e ≡ horner m g e
 unfolding horner
 horner_same zero f g same e = same 0 e (omega arith)
 horner_same (suc m) f g same e =

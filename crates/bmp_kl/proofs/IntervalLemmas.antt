@@ -38,9 +38,11 @@ module _ {m : CartanMatrix} {roots : List Vector} (system : IsRootSystem m roots
         let places : x ≡ y = once_apart list interval.vertices.once x y (identity_element m) below (omega arith) same in
         absurd (omega (arith, places))
 
-    pub interval_triangular : IsTriangular (length list) (λ x. element_length roots (vertex_at m list x)) (bars_of m roots list)
+    pub interval_triangular : IsTriangular (length list) (λ x. element_length roots (vertex_at m list x))
+        (bars_of m roots list)
     interval_triangular = record {
-      diagonal = λ x below e. bar_itself (weyl_is_group m roots system) _ (vertex_at m list x) (vertex_in x below) refl e;
+      diagonal = λ x below e. bar_itself (weyl_is_group m roots system) _ (vertex_at m list x) (vertex_in x below) refl
+          e;
       below = λ x y above below e.
           bar_shorter (weyl_is_group m roots system) _ (vertex_at m list x) (vertex_at m list y)
           (vertex_in x below) (vertex_in y (omega arith)) refl (vertex_apart x y above below)

@@ -29,7 +29,8 @@ row_none start gap c row old = record {
   kept = λ i off. refl;
 }
 
-pub row_next : (start gap n place : ℕ) (c : ℤ) (row : ℕ → ℕ) (old first second : List ℤ) (v : ℤ) → IsRowAdded start gap n c row old first
+pub row_next : (start gap n place : ℕ) (c : ℤ) (row : ℕ → ℕ) (old first second : List ℤ) (v : ℤ) →
+    IsRowAdded start gap n c row old first
     → second ≡ set first place v → place + 2 * n ≡ start + gap → place < length old
     → v ≡ get_or first place (pos 0) +ℤ pos (row n) *ℤ c → IsRowAdded start gap (n + 1) c row old second
 row_next start gap n place c row old first second v before is at inside value = record {
@@ -53,7 +54,8 @@ row_next start gap n place c row old first second v before is at inside value = 
 }
 
 -- a row of zeros adds nothing
-pub row_dead : (start gap n : ℕ) (c : ℤ) (row : ℕ → ℕ) (old : List ℤ) → ((j : ℕ) → j < n → row j ≡ 0) → IsRowAdded start gap n c row old old
+pub row_dead : (start gap n : ℕ) (c : ℤ) (row : ℕ → ℕ) (old : List ℤ) → ((j : ℕ) → j < n → row j ≡ 0) →
+    IsRowAdded start gap n c row old old
 row_dead start gap n c row old none = record {
   as_long = refl;
   added = λ j i l e. add_nothing (get_or old i (pos 0)) (pos (row j)) c (ap pos (none j l));
@@ -73,7 +75,8 @@ pub term_dead : (a n : ℕ) (c : ℤ) (counts : ℕ → ℕ → ℕ) (old : List
 term_dead a n c counts old none = record {
   as_long = refl;
   added = λ x d l m.
-      plus_none (part_at old x d a) (pos (counts x d) *ℤ c) (ap (λ z. pos (counts x d) *ℤ z) none ∙ mul-zero (pos (counts x d)));
+      plus_none (part_at old x d a) (pos (counts x d) *ℤ c) (ap (λ z. pos (counts x d) *ℤ z) none
+      ∙ mul-zero (pos (counts x d)));
   kept = λ x b d l m off. refl;
 }
   where
@@ -95,7 +98,8 @@ place_apart x b d n a gap j lb ld la lg small off e =
     by (inl apart) rows columns = apart columns
     by (inr apart) rows columns = apart rows
 
-pub term_next : (a n gap : ℕ) (c : ℤ) (counts : ℕ → ℕ → ℕ) (row : ℕ → ℕ) (old first second : List ℤ) → IsTermAdded a n c counts old first
+pub term_next : (a n gap : ℕ) (c : ℤ) (counts : ℕ → ℕ → ℕ) (row : ℕ → ℕ) (old first second : List ℤ) →
+    IsTermAdded a n c counts old first
     → IsRowAdded (n * 1369 + a * 37) gap (gap / 2 + 1) c row first second → a < 37 → gap < 37
     → ((d j : ℕ) → d + 2 * j ≡ gap → counts n d ≡ row j) → ((d : ℕ) → ((j : ℕ) → d + 2 * j ≢ gap) → counts n d ≡ 0)
     → IsTermAdded a (n + 1) c counts old second
@@ -119,7 +123,8 @@ term_next a n gap c counts row old first second before rows la lg at off = recor
     less x b (inr h) = inr (omega arith)
 
     apart : (x b d : ℕ) → b < 37 → d < 37 → (b ≢ a) ⊎ (x ≢ n) → part_at second x d b ≡ part_at first x d b
-    apart x b d l m away = rows.kept (part_place x b d) (λ j k e. place_apart x b d n a gap j l m la lg (omega arith) away e)
+    apart x b d l m away =
+        rows.kept (part_place x b d) (λ j k e. place_apart x b d n a gap j l m la lg (omega arith) away e)
 
     own : (d : ℕ) → d < 37 → part_at second n d a ≡ part_at old n d a +ℤ pos (counts n d) *ℤ c
     own d m =
@@ -144,15 +149,19 @@ bar_none y tops counts old = record {
   kept = λ x a d l m k h. refl;
 }
 
-pub bar_next : (n y : ℕ) (tops : List ℤ) (c : ℤ) (counts : ℕ → ℕ → ℕ) (old first second : List ℤ) → IsBarAdded n y tops counts old first
-    → IsTermAdded n y c counts first second → c ≡ get_or tops n (pos 0) → n < 37 → IsBarAdded (n + 1) y tops counts old second
+pub bar_next : (n y : ℕ) (tops : List ℤ) (c : ℤ) (counts : ℕ → ℕ → ℕ) (old first second : List ℤ) →
+    IsBarAdded n y tops counts old first
+    → IsTermAdded n y c counts first second → c ≡ get_or tops n (pos 0) → n < 37 →
+    IsBarAdded (n + 1) y tops counts old second
 bar_next n y tops c counts old first second before term same few = record {
   as_long = term.as_long ∙ before.as_long;
   added = λ x a d l m k.
       elim (cases_eq a n) [
         | inl last ↦
-            subst (λ b. part_at second x d b ≡ part_at old x d b +ℤ pos (counts x d) *ℤ get_or tops b (pos 0)) (sym last)
-            (term.added x d l k ∙ ap₂ (λ s t. s +ℤ pos (counts x d) *ℤ t) (before.kept x n d l (omega arith) few k) same)
+            subst (λ b. part_at second x d b ≡ part_at old x d b +ℤ pos (counts x d) *ℤ get_or tops b (pos 0))
+            (sym last)
+            (term.added x d l k ∙ ap₂ (λ s t. s +ℤ pos (counts x d) *ℤ t) (before.kept x n d l (omega arith) few k)
+            same)
         | inr other ↦ term.kept x a d (omega arith) k (inl other) ∙ before.added x a d l (omega arith) k
       ];
   kept = λ x a d l m k h. term.kept x a d k h (inl (λ e. absurd (omega arith))) ∙ before.kept x a d l (omega arith) k h;
@@ -163,7 +172,8 @@ pub value_added : (y : ℕ) (tops : List ℤ) (counts : ℕ → ℕ → ℕ) (ol
     → (x d : ℕ) (e : ℤ) → x < y → d < 37
     → part_value new x d e ≡ part_value old x d e +ℤ lower_value (λ a. get_or tops a (pos 0)) e *ℤ pos (counts x d)
 value_added y tops counts old new added x d (pos zero) l m =
-    added.added x 0 d l (omega arith) m ∙ ap (λ z. part_at old x d 0 +ℤ z) (*ℤ_comm (pos (counts x d)) (get_or tops 0 (pos 0)))
+    added.added x 0 d l (omega arith) m
+    ∙ ap (λ z. part_at old x d 0 +ℤ z) (*ℤ_comm (pos (counts x d)) (get_or tops 0 (pos 0)))
 value_added y tops counts old new added x d (pos (suc e)) l m = none_added (pos (counts x d))
   where
     none_added : (k : ℤ) → pos 0 ≡ pos 0 +ℤ pos 0 *ℤ k
@@ -176,7 +186,8 @@ value_added y tops counts old new added x d (negsuc a) l m =
 
     by : (b : Bool) → nat_le (suc a) 36 ≡ b
         → (if b then part_at new x d (suc a) else pos 0)
-        ≡ (if b then part_at old x d (suc a) else pos 0) +ℤ (if b then get_or tops (suc a) (pos 0) else pos 0) *ℤ pos (counts x d)
+        ≡ (if b then part_at old x d (suc a) else pos 0) +ℤ (if b then get_or tops (suc a) (pos 0) else pos 0) *ℤ pos
+        (counts x d)
     by true near =
         let few : suc a < 37 = grind (arith, nat_tests) in
         added.added x (suc a) d l few m

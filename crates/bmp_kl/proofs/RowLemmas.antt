@@ -50,7 +50,8 @@ pair_next low high n old first second v w before is apart near inside value othe
                 ∙ ap (λ i. get_or old (low + i) 0 + previous (behind old high) i) (sym last)
             | inr early ↦
                 ap (λ xs. get_or xs (low + j) 0) is
-                ∙ set_two first (low + n) (high + n) (low + j) v w (λ e. early (omega arith)) (λ e. absurd (omega arith))
+                ∙ set_two first (low + n) (high + n) (low + j) v w (λ e. early (omega arith))
+                (λ e. absurd (omega arith))
                 ∙ before.lower j (omega arith)
           ];
       upper = λ j l.
@@ -61,7 +62,8 @@ pair_next low high n old first second v w before is apart near inside value othe
                 ∙ other ∙ here ∙ ap (λ i. get_or old (low + i) 0) (sym last)
             | inr early ↦
                 ap (λ xs. get_or xs (high + j) 0) is
-                ∙ set_two first (low + n) (high + n) (high + j) v w (λ e. absurd (omega arith)) (λ e. early (omega arith))
+                ∙ set_two first (low + n) (high + n) (high + j) v w (λ e. absurd (omega arith))
+                (λ e. early (omega arith))
                 ∙ before.upper j (omega arith)
           ];
       kept = λ i off away.
@@ -78,8 +80,10 @@ pair_carried low high n old first v before is apart near =
     ∙ sym (ap (λ j. previous (behind old high) j) next)
 
 -- the whole rows, where no number stands past the width
-pub rows_stepped : (x z width : ℕ) (old new : List ℕ) → x < z → width ≤ 19 → IsPairStepped (x * 19) (z * 19) width old new
-    → ((j : ℕ) → width ≤ j → j < 19 → row_value old x j ≡ 0) → ((j : ℕ) → width ≤ suc j → j < 19 → row_value old z j ≡ 0)
+pub rows_stepped : (x z width : ℕ) (old new : List ℕ) → x < z → width ≤ 19 →
+    IsPairStepped (x * 19) (z * 19) width old new
+    → ((j : ℕ) → width ≤ j → j < 19 → row_value old x j ≡ 0) →
+    ((j : ℕ) → width ≤ suc j → j < 19 → row_value old z j ≡ 0)
     → IsRowsStepped x z old new
 rows_stepped x z width old new order few pair here there = record {
   as_long = pair.as_long;
@@ -99,7 +103,8 @@ rows_stepped x z width old new order few pair here there = record {
             ∙ there j (omega arith) l ∙ sym (here j far l)
       ];
   kept = λ v j l off away.
-      pair.kept (v * 19 + j) (λ i k e. apart_rows v x j i l (omega arith) off e) (λ i k e. apart_rows v z j i l (omega arith) away e);
+      pair.kept (v * 19 + j) (λ i k e. apart_rows v x j i l (omega arith) off e)
+      (λ i k e. apart_rows v z j i l (omega arith) away e);
 }
   where
     below_or : (a b : ℕ) → (a < b) ⊎ (b ≤ a)
@@ -116,7 +121,8 @@ rows_stepped x z width old new order few pair here there = record {
     apart_rows v x j i l k off e = off (omega arith)
 
 -- rows without numbers are stepped as they are
-pub rows_dead : (x z : ℕ) (old : List ℕ) → ((j : ℕ) → j < 19 → row_value old x j ≡ 0) → ((j : ℕ) → j < 19 → row_value old z j ≡ 0)
+pub rows_dead : (x z : ℕ) (old : List ℕ) → ((j : ℕ) → j < 19 → row_value old x j ≡ 0) →
+    ((j : ℕ) → j < 19 → row_value old z j ≡ 0)
     → IsRowsStepped x z old old
 rows_dead x z old here there = record {
   as_long = refl;
@@ -133,7 +139,8 @@ rows_dead x z old here there = record {
     carried_none (suc j) l = there j (omega arith)
 
 -- the two rows are live after it
-pub lively : (n x z : ℕ) (old new : List ℕ) (live next : List Bool) → HasLiveRows n old live → x < n → z < n → IsRowsStepped x z old new
+pub lively : (n x z : ℕ) (old new : List ℕ) (live next : List Bool) → HasLiveRows n old live → x < n → z < n →
+    IsRowsStepped x z old new
     → next ≡ set (set live x true) z true → HasLiveRows n new next
 lively n x z old new live next rows inside within stepped is = record {
   places = stepped.as_long ∙ rows.places;
@@ -146,12 +153,14 @@ lively n x z old new live next rows inside within stepped is = record {
         | inr away ↦
             elim (cases_eq v x) [
               | inl here ↦
-                  absurd (false≢true (sym off ∙ ap (λ ls. get_or ls v false) is ∙ get_or-set_other (set live x true) z v true false away
+                  absurd (false≢true (sym off ∙ ap (λ ls. get_or ls v false) is
+                  ∙ get_or-set_other (set live x true) z v true false away
                   ∙ get_or-set_at live x v true false here (omega (arith, rows.as_many))))
               | inr other ↦
                   stepped.kept v j k other away
                   ∙ rows.dead v j l k
-                  (sym (get_or-set_other live x v true false other) ∙ sym (get_or-set_other (set live x true) z v true false away)
+                  (sym (get_or-set_other live x v true false other)
+                  ∙ sym (get_or-set_other (set live x true) z v true false away)
                   ∙ sym (ap (λ ls. get_or ls v false) is) ∙ off)
             ]
       ];
@@ -173,25 +182,30 @@ some_same : (a b : ℕ) → (Some a) ≡ (Some b) → a ≡ b
 some_same a b e = cc
 
 -- the rows of a pair that is still to come are the old ones
-pub fresh : (partners : ℕ → Option ℕ) (lengths : List ℕ) (n x : ℕ) (old first : List ℕ) → IsMatched partners lengths n → x < n
+pub fresh : (partners : ℕ → Option ℕ) (lengths : List ℕ) (n x : ℕ) (old first : List ℕ) → IsMatched partners lengths n →
+    x < n
     → IsSteppedTo partners n x old first → (z : ℕ) → partners x ≡ Some z → x < z → (j : ℕ) → j < 19
     → (row_value first x j ≡ row_value old x j) × (row_value first z j ≡ row_value old z j)
 fresh partners lengths n x old first matched inside before z e order j k =
     let match : IsMatch partners lengths n x z = matched x z inside e in (
-      before.kept x j inside k (omega arith) (λ (u, f, below). absurd (let same : u ≡ z = some_same u z (sym f ∙ e) in omega arith)),
+      before.kept x j inside k (omega arith)
+          (λ (u, f, below). absurd (let same : u ≡ z = some_same u z (sym f ∙ e) in omega arith)),
       before.kept z j match.inside k (omega arith)
           (λ (u, f, below). absurd (let same : u ≡ x = some_same u x (sym f ∙ match.back) in omega arith)),
     )
 
-module _ (partners : ℕ → Option ℕ) (lengths : List ℕ) (n x : ℕ) (old first second : List ℕ) (matched : IsMatched partners lengths n)
+module _ (partners : ℕ → Option ℕ) (lengths : List ℕ) (n x : ℕ) (old first second : List ℕ)
+    (matched : IsMatched partners lengths n)
     (inside : x < n) (before : IsSteppedTo partners n x old first) where
   -- x has no longer product: all stays
-  stays : ((v : ℕ) → v < n → partners v ≡ Some x → v < x) → (partners x ≡ None) ⊎ ((z : ℕ) × (partners x ≡ Some z) × (z < x))
+  stays : ((v : ℕ) → v < n → partners v ≡ Some x → v < x) → (partners x ≡ None) ⊎
+      ((z : ℕ) × (partners x ≡ Some z) × (z < x))
       → second ≡ first → IsSteppedTo partners n (x + 1) old second
   stays lower own is = record {
     as_long = ap length is ∙ before.as_long;
     done = λ v j l k below. ap (λ vs. row_value vs v j) is ∙ done v j l k below;
-    kept = λ v j l k low off. ap (λ vs. row_value vs v j) is ∙ before.kept v j l k (omega arith) (λ (z, e, below). off (z, e, omega arith));
+    kept = λ v j l k low off. ap (λ vs. row_value vs v j) is
+        ∙ before.kept v j l k (omega arith) (λ (z, e, below). off (z, e, omega arith));
   }
     where
       own_done : (j : ℕ) → j < 19 → (partners x ≡ None) ⊎ ((z : ℕ) × (partners x ≡ Some z) × (z < x))
@@ -208,7 +222,8 @@ module _ (partners : ℕ → Option ℕ) (lengths : List ℕ) (n x : ℕ) (old f
           → row_value first v j ≡ stepped_row (partners v) (row_value old) v j
       done v j l k (inl below) =
           elim (cases_eq v x) [
-            | inl at ↦ subst (λ u. row_value first u j ≡ stepped_row (partners u) (row_value old) u j) (sym at) (own_done j k own)
+            | inl at ↦ subst (λ u. row_value first u j ≡ stepped_row (partners u) (row_value old) u j) (sym at)
+                (own_done j k own)
             | inr other ↦ before.done v j l k (inl (omega arith))
           ]
       done v j l k (inr (z, e, below)) =
@@ -218,7 +233,8 @@ module _ (partners : ℕ → Option ℕ) (lengths : List ℕ) (n x : ℕ) (old f
           ]
 
   -- x and its longer product are stepped
-  turns : (z : ℕ) → partners x ≡ Some z → x < z → IsRowsStepped x z first second → IsSteppedTo partners n (x + 1) old second
+  turns : (z : ℕ) → partners x ≡ Some z → x < z → IsRowsStepped x z first second →
+      IsSteppedTo partners n (x + 1) old second
   turns z e order rows = record {
     as_long = rows.as_long ∙ before.as_long;
     done = λ v j l k below. done v j l k below;
@@ -262,7 +278,8 @@ module _ (partners : ℕ → Option ℕ) (lengths : List ℕ) (n x : ℕ) (old f
           → row_value second v j ≡ stepped_row (partners v) (row_value old) v j
       done v j l k (inl below) =
           elim (cases_eq v x) [
-            | inl at ↦ subst (λ u. row_value second u j ≡ stepped_row (partners u) (row_value old) u j) (sym at) (own j k)
+            | inl at ↦ subst (λ u. row_value second u j ≡ stepped_row (partners u) (row_value old) u j) (sym at)
+                (own j k)
             | inr other ↦
                 outside v j k other (λ at. absurd (omega arith)) (before.done v j l k (inl (omega arith)))
           ]
@@ -270,9 +287,11 @@ module _ (partners : ℕ → Option ℕ) (lengths : List ℕ) (n x : ℕ) (old f
           elim (cases_eq u x) [
             | inl at ↦
                 let same : v ≡ z = some_same v z (sym (matched v x l (f ∙ ap Some at)).back ∙ e) in
-                subst (λ w. row_value second w j ≡ stepped_row (partners w) (row_value old) w j) (sym same) (other_own j k)
+                subst (λ w. row_value second w j ≡ stepped_row (partners w) (row_value old) w j) (sym same)
+                (other_own j k)
             | inr other ↦
-                outside v j k (λ same. absurd (let two : u ≡ z = some_same u z (sym f ∙ ap partners same ∙ e) in omega arith))
+                outside v j k (λ same. absurd (let two : u ≡ z = some_same u z (sym f ∙ ap partners same ∙ e) in
+                omega arith))
                 (λ same. other (some_same u x (sym f ∙ ap partners same ∙ back)))
                 (before.done v j l k (inr (u, f, omega arith)))
           ]
@@ -293,7 +312,8 @@ module _ (partners : ℕ → Option ℕ) (lengths : List ℕ) (n x : ℕ) (old f
             | inl order ↦ turns z e order (stepped z e order)
             | inr late ↦
                 let other : x ≢ z = (matched x z inside e).apart in
-                stays (λ v l f. let same : v ≡ z = some_same v z (sym (matched v x l f).back ∙ e) in omega (arith, same, other, late))
+                stays (λ v l f. let same : v ≡ z = some_same v z (sym (matched v x l f).back ∙ e) in
+                omega (arith, same, other, late))
                 (inr (z, e, omega (arith, other, late)))
                 (kept (λ u f order. absurd (let same : u ≡ z = some_same u z (sym f ∙ e) in omega arith)))
           ]
@@ -324,13 +344,16 @@ all_stepped partners n x old new to none inside v j l k =
 
     by : (p : Option ℕ) → partners v ≡ p → x ≤ v → row_value new v j ≡ stepped_row (partners v) (row_value old) v j
     by None e far =
-        to.kept v j l k far (λ (z, f, below). none_some z (sym e ∙ f)) ∙ ap (λ p. stepped_row p (row_value old) v j) (sym e)
+        to.kept v j l k far (λ (z, f, below). none_some z (sym e ∙ f))
+        ∙ ap (λ p. stepped_row p (row_value old) v j) (sym e)
     by (Some z) e far =
         elim (below_or z x) [
           | inl below ↦ to.done v j l k (inr (z, e, below))
           | inr out ↦
-              to.kept v j l k far (λ (u, f, below). absurd (let same : u ≡ z = some_same u z (sym f ∙ e) in omega arith))
-              ∙ both (nat_lt v z) (row_value old v j) (previous (row_value old z) j) (row_value old z j) (none v j l k far)
+              to.kept v j l k far
+              (λ (u, f, below). absurd (let same : u ≡ z = some_same u z (sym f ∙ e) in omega arith))
+              ∙ both (nat_lt v z) (row_value old v j) (previous (row_value old z) j) (row_value old z j)
+              (none v j l k far)
               (carried_none z j (inside v z l e) out k) (none z j (inside v z l e) k out)
               ∙ ap (λ p. stepped_row p (row_value old) v j) (sym e)
         ]
@@ -364,18 +387,21 @@ cleared_next start n old first second is inside before = (
     less i (inl low) = inl low
     less i (inr high) = inr (omega arith)
 
-pub row_kept : (x v j : ℕ) (old new : List ℕ) → ((i : ℕ) → (i < x * 19) ⊎ (x * 19 + 19 ≤ i) → get_or new i 0 ≡ get_or old i 0)
+pub row_kept : (x v j : ℕ) (old new : List ℕ) →
+    ((i : ℕ) → (i < x * 19) ⊎ (x * 19 + 19 ≤ i) → get_or new i 0 ≡ get_or old i 0)
     → j < 19 → v ≢ x → row_value new v j ≡ row_value old v j
 row_kept x v j old new kept l off = kept (v * 19 + j) (away v x j l off)
   where
     away : (v x j : ℕ) → j < 19 → v ≢ x → (v * 19 + j < x * 19) ⊎ (x * 19 + 19 ≤ v * 19 + j)
-    away v x j l off = elim (below_or v x) [ inl below ↦ inl (omega arith) | inr above ↦ inr (omega (arith, off, above)) ]
+    away v x j l off =
+        elim (below_or v x) [ inl below ↦ inl (omega arith) | inr above ↦ inr (omega (arith, off, above)) ]
       where
         below_or : (a b : ℕ) → (a < b) ⊎ (b ≤ a)
         below_or a b = grind arith
 
 -- a row of zeros is dead
-pub deadened : (n x : ℕ) (old new : List ℕ) (live next : List Bool) → HasLiveRows n old live → x < n → length new ≡ length old
+pub deadened : (n x : ℕ) (old new : List ℕ) (live next : List Bool) → HasLiveRows n old live → x < n →
+    length new ≡ length old
     → ((j : ℕ) → j < 19 → row_value new x j ≡ 0) → ((v j : ℕ) → j < 19 → v ≢ x → row_value new v j ≡ row_value old v j)
     → next ≡ set live x false → HasLiveRows n new next
 deadened n x old new live next rows inside long zeros kept is = record {
@@ -386,14 +412,16 @@ deadened n x old new live next rows inside long zeros kept is = record {
         | inl at ↦ subst (λ u. row_value new u j ≡ 0) (sym at) (zeros j k)
         | inr other ↦
             kept v j k other
-            ∙ rows.dead v j l k (sym (get_or-set_other live x v false false other) ∙ sym (ap (λ ls. get_or ls v false) is) ∙ off)
+            ∙ rows.dead v j l k (sym (get_or-set_other live x v false false other)
+            ∙ sym (ap (λ ls. get_or ls v false) is) ∙ off)
       ];
 }
 
 -- one at the identity, and zeros elsewhere
 pub started : (n : ℕ) (first second : List ℕ) (live next : List Bool) → HasLiveRows n first live → 0 < n
     → ((v j : ℕ) → v < n → j < 19 → row_value first v j ≡ 0) → second ≡ set first 0 1 → next ≡ set live 0 true
-    → HasLiveRows n second next × ((v j : ℕ) → v < n → j < 19 → row_value second v j ≡ (if v == 0 then one_at_zero j else 0))
+    → HasLiveRows n second next ×
+    ((v j : ℕ) → v < n → j < 19 → row_value second v j ≡ (if v == 0 then one_at_zero j else 0))
 started n first second live next rows some zeros is lively = (
   record {
     places = ap length is ∙ length-set first 0 1 ∙ rows.places;
@@ -414,7 +442,8 @@ started n first second live next rows some zeros is lively = (
 )
   where
     away : (v j : ℕ) → v ≢ 0 → row_value second v j ≡ row_value first v j
-    away v j other = ap (λ xs. get_or xs (v * 19 + j) 0) is ∙ get_or-set_other first 0 (v * 19 + j) 1 0 (λ e. other (omega arith))
+    away v j other = ap (λ xs. get_or xs (v * 19 + j) 0) is
+        ∙ get_or-set_other first 0 (v * 19 + j) 1 0 (λ e. other (omega arith))
 
     here : (j : ℕ) → j < 19 → row_value second 0 j ≡ one_at_zero j
     here zero k =

@@ -8,7 +8,8 @@ use Rattle.bmp_weyl.specs.declared.elem.Elem.{Elem}
 use Rattle.bmp_kl.specs.VertexProducts.{IsProductAt, partner}
 
 -- what holds of each member of a list holds after one more
-pub listed_more : {X : Type 0} (P : ℕ → X → Type 0) (n : ℕ) (old new : List X) (v d : X) → length old ≡ n → new ≡ old ++ v ∷ []
+pub listed_more : {X : Type 0} (P : ℕ → X → Type 0) (n : ℕ) (old new : List X) (v d : X) → length old ≡ n →
+    new ≡ old ++ v ∷ []
     → ((q : ℕ) → q < n → P q (get_or old q d)) → P n v → (q : ℕ) → q < n + 1 → P q (get_or new q d)
 listed_more P n old new v d long is before last q below =
     subst (λ xs. P q (get_or xs q d)) (sym is)
@@ -21,7 +22,8 @@ listed_more P n old new v d long is before last q below =
           subst (λ p. P q p) (sym (get_or_append_left old (v ∷ []) d q (omega (arith, long)))) (before q (omega arith))
     ])
 
-pub product_placed : (m : CartanMatrix) (word : List ℕ) (list : List Elem) (products : List (Option ℕ)) (x k : ℕ) → k < 6
+pub product_placed : (m : CartanMatrix) (word : List ℕ) (list : List Elem) (products : List (Option ℕ)) (x k : ℕ) →
+    k < 6
     → IsProductAt m word list ((x * 6 + k) / 6) ((x * 6 + k) % 6) (partner products k x)
     → IsProductAt m word list x k (partner products k x)
 product_placed m word list products x k below is =

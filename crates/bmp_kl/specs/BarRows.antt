@@ -1,9 +1,11 @@
 -- Bars in rows of 19 natural numbers, one row for each vertex, one behind the other.
 --   behind vs start j                 the number j places behind start
 --   row_value vs v j                  the j-th number of the row of vertex v
---   leadings_of m roots list x y j    the coefficient at vertex x and the power len(y) - len(x) - 2 j in the bar of vertex y
+--   leadings_of m roots list x y j    the coefficient at vertex x and the power len(y) - len(x) - 2 j in the bar of
+--                                     vertex y
 --   HasLiveRows n vs live        there are n rows, and a row that is not live has zeros alone
---   stepped_row p old v j        a number after a step, where p is the number of the product of v with the simple reflection
+--   stepped_row p old v j        a number after a step, where p is the number of the product of v with the simple
+--                                reflection
 --   IsPairStepped low high n old new   the first n numbers of the rows that begin at low and high are stepped
 --   IsRowsStepped x z old new    the rows of x and of its longer product z are stepped
 --   IsMatched partners lengths n   products are known both ways, and the later one is longer by one
@@ -25,7 +27,8 @@ row_value vs v = behind vs (v * 19)
 
 abbrev pub leadings_of : CartanMatrix → List Vector → List Elem → ℕ → ℕ → ℕ → ℕ
 leadings_of m roots list x y j =
-    leading_steps (weyl_group m roots) (element_length roots (vertex_at m list y)) (vertex_at m list y) (vertex_at m list x) j
+    leading_steps (weyl_group m roots) (element_length roots (vertex_at m list y)) (vertex_at m list y)
+    (vertex_at m list x) j
 
 pub record HasLiveRows (n : ℕ) (vs : List ℕ) (live : List Bool) : Type 0 where
   pub places : length vs ≡ n * 19
@@ -66,4 +69,5 @@ pub record IsSteppedTo (partners : ℕ → Option ℕ) (n x : ℕ) (old new : Li
   pub as_long : length new ≡ length old
   pub done : (v j : ℕ) → v < n → j < 19 → (v < x) ⊎ HasPartnerBelow partners v x
       → row_value new v j ≡ stepped_row (partners v) (row_value old) v j
-  pub kept : (v j : ℕ) → v < n → j < 19 → x ≤ v → (HasPartnerBelow partners v x → ⊥) → row_value new v j ≡ row_value old v j
+  pub kept : (v j : ℕ) → v < n → j < 19 → x ≤ v → (HasPartnerBelow partners v x → ⊥) →
+      row_value new v j ≡ row_value old v j

@@ -1,5 +1,6 @@
 -- The least right descent of a vertex, by numbers.
---   IsFirstDescent rank partners y d    d has the first simple reflection whose product with vertex y is a smaller vertex, and that
+--   IsFirstDescent rank partners y d    d has the first simple reflection whose product with vertex y is a smaller
+--                                       vertex, and that
 use Rattle.std.specs.Prelude.{◌≡◌, ℕ, ◌<◌, ◌≤◌, Option, Some}
 use Rattle.bmp_kl.specs.declared.steps.Descent.{Descent}
 

@@ -1,6 +1,7 @@
 -- The table and the parts of its sums, filled from the greatest vertex down.
 --   top_value n cs x                       h_x, from the sums
---   IsFilled m roots list limit low sums parts   the vertices from low on are done, and their terms are in the parts of the others
+--   IsFilled m roots list limit low sums parts   the vertices from low on are done, and their terms are in the parts of
+--                                                the others
 --   HasTooBig m roots list limit x         x is the greatest vertex where a coefficient of h_x passes the limit
 --   IsError m roots list limit error       the error says so; want of memory says nothing
 use Rattle.std.specs.Prelude.{◌≡◌, ℕ, ◌+◌, ◌-◌, ◌*◌, ◌<◌, ◌≤◌, ◌==◌, if◌then◌else◌, List, length, ℤ}
@@ -19,11 +20,13 @@ use Rattle.bmp_kl.specs.declared.error.KlError.TheVariants.{TooBig, Memory}
 abbrev pub top_value : ℕ → List ℤ → ℕ → Laurent
 top_value n cs x e = if x + 1 == n then constant_one e else positive_part (sum_value cs x) e
 
-pub record IsFilled (m : CartanMatrix) (roots : List Vector) (list : List Elem) (limit low : ℕ) (sums parts : List ℤ) : Type 0 where
+pub record IsFilled (m : CartanMatrix) (roots : List Vector) (list : List Elem) (limit low : ℕ) (sums parts : List ℤ) :
+    Type 0 where
   pub table : IsTableFrom (length list) (bars_of m roots list) low (top_value (length list) sums) (sum_value sums)
   pub within : (x : ℕ) (e : ℤ) → low ≤ x → x < length list → unsigned_abs (top_value (length list) sums x e) ≤ limit
   pub partial : (x d : ℕ) (a : ℤ) → x < low → d ≤ 36
-      → part_value parts x d a ≡ part_of (low - 1) (length list) (top_value (length list) sums) (counts_of m roots list x) d a
+      → part_value parts x d a ≡ part_of (low - 1) (length list) (top_value (length list) sums)
+      (counts_of m roots list x) d a
   pub sums_long : length sums ≡ length list * 73
   pub parts_long : length parts ≡ length list * 1369
 

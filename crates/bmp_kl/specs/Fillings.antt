@@ -1,5 +1,6 @@
 -- What a `Filling` is of an interval.
---   IsFilling roots letters list limit low f    f has the interval's steps, and its sums and parts are filled from low on
+--   IsFilling roots letters list limit low f    f has the interval's steps, and its sums and parts are filled from low
+--                                               on
 use Rattle.std.specs.Prelude.{◌≡◌, ℕ, List, length}
 use Rattle.bmp_roots.specs.RootSystems.{matrix_of, positive_roots_of}
 use Rattle.bmp_roots.specs.declared.root_system.Roots.{Roots}

@@ -1,6 +1,7 @@
 -- One product with v - v^-1 on a row of 145 coefficients, from the exponent -72 to 72.
 --   before row i, after row i        the coefficients before and after the i-th, and 0 outside
---   IsMultiplied part n old new      the first n coefficients are those of part and of v - v^-1 times old, and the others are old
+--   IsMultiplied part n old new      the first n coefficients are those of part and of v - v^-1 times old, and the
+--                                    others are old
 --   steps_sum m parts j              the parts at the powers from m down to m + 1 - j, by one product for each
 use Rattle.std.specs.Prelude.{◌≡◌, ℕ, zero, suc, ◌+◌, ◌-◌, ◌<◌, ◌≤◌, nat_lt, if◌then◌else◌, List, length, slice_index_or, ℤ, pos, ◌+ℤ◌, ◌-ℤ◌}
 use Rattle.bmp_hecke.specs.Laurents.{Laurent, times_difference}

@@ -21,7 +21,8 @@ bars_of m roots list x y = bar_of (weyl_group m roots) (vertex_at m list y) (ver
 
 abbrev pub counts_of : CartanMatrix → List Vector → List Elem → ℕ → ℕ → ℕ → ℕ
 counts_of m roots list x y d =
-    difference_steps (weyl_group m roots) (element_length roots (vertex_at m list y)) (vertex_at m list y) (vertex_at m list x) d
+    difference_steps (weyl_group m roots) (element_length roots (vertex_at m list y)) (vertex_at m list y)
+    (vertex_at m list x) d
 
 abbrev pub counts_below : CartanMatrix → List Vector → List Elem → ℕ → ℕ → ℕ → ℕ
 counts_below m roots list y x d = counts_of m roots list x y d

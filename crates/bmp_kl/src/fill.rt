@@ -16,15 +16,16 @@ use crate::table::KlTable;
 use bmp_interval::Interval;
 use std::alloc::Global;
 
-/// The table of an interval, for a limit from 1 to 1,000,000. The error names the greatest vertex x where a coefficient of h_x
-/// is larger in size than the limit, or says that memory is short; the coefficients of q_x are not limited.
+/// The table of an interval, for a limit from 1 to 1,000,000. The error names the greatest vertex x where a coefficient
+/// of h_x is larger in size than the limit, or says that memory is short; the coefficients of q_x are not limited.
 ///
-/// It takes some 22,000 bytes for each vertex, and for each vertex y the time of its bar: for each letter of y, the products of
-/// the vertices that are shorter.
+/// It takes some 22,000 bytes for each vertex, and for each vertex y the time of its bar: for each letter of y, the
+/// products of the vertices that are shorter.
 pub fn kl_table(alloc: Global, interval: &Interval, limit: i64) -> Result<KlTable, KlError>
     requires { (pos 1 ≤ℤ limit) × (limit ≤ℤ pos 1000000) }
     ensures table { IfOk result (λ table. IsTable (length (vertices_of interval.now))
-        (bars_of (matrix_of (system_of interval.now)) (positive_roots_of (system_of interval.now)) (vertices_of interval.now))
+        (bars_of (matrix_of (system_of interval.now)) (positive_roots_of (system_of interval.now))
+        (vertices_of interval.now))
         (coefficient_of table) (sum_of table)) }
     ensures count { IfOk result (λ table. count_of table ≡ length (vertices_of interval.now)) }
     ensures lengths { IfOk result (λ table. table.lengths.items

@@ -13,8 +13,9 @@ use crate::steps::Steps;
 use bmp_interval::Interval;
 use std::alloc::{AllocError, Global};
 
-/// The sums q_x of the vertices that are done, 73 coefficients each from the exponent -36 to 36, the parts of the others, and
-/// what one vertex needs for a while: its bar, its sum, and the coefficients of h_x at the exponents from 0.
+/// The sums q_x of the vertices that are done, 73 coefficients each from the exponent -36 to 36, the parts of the
+/// others, and what one vertex needs for a while: its bar, its sum, and the coefficients of h_x at the exponents from
+/// 0.
 #[derive(Drop)]
 pub struct Filling {
     pub steps: Steps,
@@ -66,7 +67,8 @@ fn store(sums: &mut [i128], x: usize, row: &[i128])
     requires long { length row.now ≡ 145 }
     requires inside { x * 73 + 73 ≤ length sums.old }
     ensures as_long { length sums.new ≡ length sums.old }
-    ensures here { (i : ℕ) → i < 73 → slice_index_or sums.new (x * 73 + i) (pos 0) ≡ slice_index_or row.now (i + 36) (pos 0) }
+    ensures here { (i : ℕ) → i < 73 → slice_index_or sums.new (x * 73 + i) (pos 0) ≡ slice_index_or row.now (i + 36)
+        (pos 0) }
     ensures others { (y i : ℕ) → i < 73 → y ≢ x
         → slice_index_or sums.new (y * 73 + i) (pos 0) ≡ slice_index_or sums.old (y * 73 + i) (pos 0) }
 {
@@ -136,7 +138,8 @@ impl Filling {
         requires limit { (pos 1 ≤ℤ limit) × (limit ≤ℤ pos 1000000) }
         requires filling { IsFilling (system_of interval.now) (letters_of interval.now) (vertices_of interval.now)
             (unsigned_abs limit) (x + 1) self.old }
-        ensures filling { OnTrue result (IsFilling (system_of interval.now) (letters_of interval.now) (vertices_of interval.now)
+        ensures filling { OnTrue result
+            (IsFilling (system_of interval.now) (letters_of interval.now) (vertices_of interval.now)
             (unsigned_abs limit) x self.new) }
         ensures too_big { OnFalse result (HasTooBig (matrix_of (system_of interval.now))
             (positive_roots_of (system_of interval.now)) (vertices_of interval.now) (unsigned_abs limit) x) }
@@ -149,7 +152,14 @@ impl Filling {
         store(&mut self.sums, x, &self.row);
         top_row(&mut self.tops, &self.sums, x, count);
         self.rows.bar(interval, &self.steps, x);
-        add_bar(&mut self.parts, interval, &self.steps, &self.rows, x, &self.tops);
+        add_bar(
+            &mut self.parts,
+            interval,
+            &self.steps,
+            &self.rows,
+            x,
+            &self.tops,
+        );
         true
     }
 }

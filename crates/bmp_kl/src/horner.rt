@@ -13,7 +13,11 @@ fn part_at(parts: &[i128], x: usize, d: usize, i: usize) -> i128
     requires place { i < 145 }
     ensures { result ≡ part_value parts.now x d (pos i -ℤ pos 72) }
 {
-    if i < 36 || i > 72 { 0 } else { parts[x * 1369 + (72 - i) * 37 + d] }
+    if i < 36 || i > 72 {
+        0
+    } else {
+        parts[x * 1369 + (72 - i) * 37 + d]
+    }
 }
 
 // The coefficient after the i-th.

@@ -42,7 +42,15 @@ fn add_row(parts: &mut Vec<i128>, rows: &Rows, x: usize, start: usize, gap: usiz
 }
 
 // Adds the terms of the bar of vertex y at the exponent -a, at each lower vertex.
-fn add_term(parts: &mut Vec<i128>, interval: &Interval, steps: &Steps, rows: &Rows, y: usize, a: usize, top: i128)
+fn add_term(
+    parts: &mut Vec<i128>,
+    interval: &Interval,
+    steps: &Steps,
+    rows: &Rows,
+    y: usize,
+    a: usize,
+    top: i128,
+)
     requires steps { AreSteps (system_of interval.now) (letters_of interval.now) (vertices_of interval.now) steps.now }
     requires vertex { y < length (vertices_of interval.now) }
     requires rows { HasLiveRows (length (vertices_of interval.now)) rows.now.values.items rows.now.live.items }
@@ -53,7 +61,8 @@ fn add_term(parts: &mut Vec<i128>, interval: &Interval, steps: &Steps, rows: &Ro
     requires exponent { a < 37 }
     requires top { IsWithin 1000000 top }
     requires fits { (x d : ℕ) → x < y → d < 37 → IsWithin (2 ^ 69) (part_at parts.old.items x d a) }
-    ensures { IsTermAdded a y top (counts_below (matrix_of (system_of interval.now)) (positive_roots_of (system_of interval.now))
+    ensures { IsTermAdded a y top
+        (counts_below (matrix_of (system_of interval.now)) (positive_roots_of (system_of interval.now))
         (vertices_of interval.now) y) parts.old.items parts.new.items }
 {
     if top != 0 {
@@ -64,8 +73,16 @@ fn add_term(parts: &mut Vec<i128>, interval: &Interval, steps: &Steps, rows: &Ro
     }
 }
 
-/// Adds the terms of the bar of vertex y at each lower vertex, where h_y has the 37 coefficients `tops` at the exponents from 0.
-pub fn add_bar(parts: &mut Vec<i128>, interval: &Interval, steps: &Steps, rows: &Rows, y: usize, tops: &[i128])
+/// Adds the terms of the bar of vertex y at each lower vertex, where h_y has the 37 coefficients `tops` at the
+/// exponents from 0.
+pub fn add_bar(
+    parts: &mut Vec<i128>,
+    interval: &Interval,
+    steps: &Steps,
+    rows: &Rows,
+    y: usize,
+    tops: &[i128],
+)
     requires steps { AreSteps (system_of interval.now) (letters_of interval.now) (vertices_of interval.now) steps.now }
     requires vertex { y < length (vertices_of interval.now) }
     requires rows { HasLiveRows (length (vertices_of interval.now)) rows.now.values.items rows.now.live.items }

@@ -10,16 +10,16 @@ use crate::steps::Steps;
 use bmp_interval::Interval;
 use std::alloc::{AllocError, Global};
 
-/// The bar of a vertex: 19 numbers for each vertex x, the coefficients at the powers len(y) - len(x) - 2 j of v - v^-1. Only
-/// live rows have other numbers than 0.
+/// The bar of a vertex: 19 numbers for each vertex x, the coefficients at the powers len(y) - len(x) - 2 j of v - v^-1.
+/// Only live rows have other numbers than 0.
 #[derive(Drop)]
 pub struct Rows {
     pub values: Vec<u64>,
     pub live: Vec<bool>,
 }
 
-// One step on the first `width` numbers of the rows that begin at `low` and, of the longer product, at `high`: the first gets the
-// second, a place later, and the second becomes the first.
+// One step on the first `width` numbers of the rows that begin at `low` and, of the longer product, at `high`: the
+// first gets the second, a place later, and the second becomes the first.
 fn step_pair(values: &mut Vec<u64>, low: usize, high: usize, width: usize)
     requires apart { low + 19 ≤ high }
     requires inside { high + 19 ≤ length values.old.items }
@@ -71,8 +71,8 @@ impl Rows {
         }
     }
 
-    // Steps the rows of x and of its product with the simple reflection k, from 0, where that is longer. `level` is the length
-    // of the bar that is made.
+    // Steps the rows of x and of its product with the simple reflection k, from 0, where that is longer. `level` is the
+    // length of the bar that is made.
     fn step_at(&mut self, steps: &Steps, k: usize, x: usize, level: u32)
         requires rows { HasLiveRows (length steps.now.lengths.items) self.old.values.items self.old.live.items }
         requires letter { k < 6 }
@@ -84,7 +84,8 @@ impl Rows {
         requires here { (z j : ℕ) → partner steps.now.products.items k x ≡ Some z → x < z
             → level ≤ slice_index steps.now.lengths.items x + 2 * j → j < 19 → row_value self.old.values.items x j ≡ 0 }
         requires there { (z j : ℕ) → partner steps.now.products.items k x ≡ Some z → x < z
-            → level ≤ slice_index steps.now.lengths.items x + 1 + 2 * j → j < 19 → row_value self.old.values.items z j ≡ 0 }
+            → level ≤ slice_index steps.now.lengths.items x + 1 + 2 * j → j < 19 → row_value self.old.values.items z j
+            ≡ 0 }
         requires small_here { (z j : ℕ) → partner steps.now.products.items k x ≡ Some z → x < z → j < 19
             → row_value self.old.values.items x j ≤ 2 ^ 36 }
         requires small_there { (z j : ℕ) → partner steps.now.products.items k x ≡ Some z → x < z → j < 19
@@ -108,12 +109,14 @@ impl Rows {
         requires letter { k < 6 }
         requires products { length steps.now.products.items ≡ length steps.now.lengths.items * 6 }
         requires level { level ≤ 36 }
-        requires matched { IsMatched (partner steps.now.products.items k) steps.now.lengths.items (length steps.now.lengths.items) }
+        requires matched { IsMatched (partner steps.now.products.items k) steps.now.lengths.items
+            (length steps.now.lengths.items) }
         requires rising { (x y : ℕ) → x ≤ y → y < length steps.now.lengths.items
             → slice_index steps.now.lengths.items x ≤ slice_index steps.now.lengths.items y }
         requires narrow { (v j : ℕ) → v < length steps.now.lengths.items → j < 19
             → level ≤ slice_index steps.now.lengths.items v + 2 * j → row_value self.old.values.items v j ≡ 0 }
-        requires small { (v j : ℕ) → v < length steps.now.lengths.items → j < 19 → row_value self.old.values.items v j ≤ 2 ^ 36 }
+        requires small { (v j : ℕ) → v < length steps.now.lengths.items → j < 19 →
+            row_value self.old.values.items v j ≤ 2 ^ 36 }
         ensures rows { HasLiveRows (length steps.now.lengths.items) self.new.values.items self.new.live.items }
         ensures stepped { (v j : ℕ) → v < length steps.now.lengths.items → j < 19 → row_value self.new.values.items v j
             ≡ stepped_row (partner steps.now.products.items k v) (row_value self.old.values.items) v j }
@@ -130,7 +133,8 @@ impl Rows {
         ensures rows { (n : ℕ) → HasLiveRows n self.old.values.items self.old.live.items
             → HasLiveRows n self.new.values.items self.new.live.items }
         ensures zeros { (j : ℕ) → j < 19 → row_value self.new.values.items x j ≡ 0 }
-        ensures kept { (v j : ℕ) → j < 19 → v ≢ x → row_value self.new.values.items v j ≡ row_value self.old.values.items v j }
+        ensures kept { (v j : ℕ) → j < 19 → v ≢ x →
+            row_value self.new.values.items v j ≡ row_value self.old.values.items v j }
     {
         if self.live[x] {
             for j in 0..19 {
@@ -157,7 +161,8 @@ impl Rows {
 
     /// The bar of vertex y, along its word of least right descents.
     pub fn bar(&mut self, interval: &Interval, steps: &Steps, y: usize)
-        requires steps { AreSteps (system_of interval.now) (letters_of interval.now) (vertices_of interval.now) steps.now }
+        requires steps { AreSteps (system_of interval.now) (letters_of interval.now) (vertices_of interval.now)
+            steps.now }
         requires vertex { y < length (vertices_of interval.now) }
         requires rows { HasLiveRows (length (vertices_of interval.now)) self.old.values.items self.old.live.items }
         ensures rows { HasLiveRows (length (vertices_of interval.now)) self.new.values.items self.new.live.items }

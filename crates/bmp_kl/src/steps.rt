@@ -9,8 +9,8 @@ ghost use Rattle.bmp_interval.specs.IntervalViews.{system_of, letters_of, word_b
 use bmp_interval::Interval;
 use std::alloc::{AllocError, Global};
 
-/// For each vertex its length, and for each vertex and simple reflection the number of their product, where that is a vertex.
-/// There are six entries for each vertex.
+/// For each vertex its length, and for each vertex and simple reflection the number of their product, where that is a
+/// vertex. There are six entries for each vertex.
 #[derive(Drop)]
 pub struct Steps {
     pub rank: usize,
@@ -29,7 +29,8 @@ pub struct Descent {
 fn product_number(interval: &Interval, x: usize, k: usize) -> Option<usize>
     requires vertex { x < length (vertices_of interval.now) }
     requires letter { k < 6 }
-    ensures { IsProductAt (matrix_of (system_of interval.now)) (word_below interval.now) (vertices_of interval.now) x k result }
+    ensures { IsProductAt (matrix_of (system_of interval.now)) (word_below interval.now) (vertices_of interval.now) x k
+        result }
 {
     let roots = interval.roots();
     if k >= roots.rank() as usize {
@@ -107,7 +108,8 @@ impl Steps {
         requires vertex { y < length self.now.lengths.items }
         requires rank { self.now.rank ≤ 6 }
         requires places { length self.now.products.items ≡ length self.now.lengths.items * 6 }
-        ensures none { IfNone result ((k z : ℕ) → k < self.now.rank → partner self.now.products.items k y ≡ Some z → y ≤ z) }
+        ensures none { IfNone result ((k z : ℕ) → k < self.now.rank → partner self.now.products.items k y ≡ Some z →
+            y ≤ z) }
         ensures some { IfSome result (IsFirstDescent self.now.rank (λ k. partner self.now.products.items k y) y) }
     {
         for k in 0..self.rank {

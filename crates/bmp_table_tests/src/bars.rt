@@ -19,13 +19,17 @@ fn a_generator_squared(rt: HostRuntime) -> Result<(), Fail> {
         (&[1], 73, 0),
     ] {
         let x = product(&roots, word).map_err(|_| "a letter")?;
-        assert_eq!(rt; square.coefficient(&x, exponent), coefficient, "{word:?} {exponent}");
+        assert_eq!(rt;
+            square.coefficient(&x, exponent),
+            coefficient,
+            "{word:?} {exponent}"
+        );
     }
     Ok(())
 }
 
-// The bar of the longest element of A2, with z = v - v^-1: z^3 + z at the identity, z^2 at the generators, z at the elements of
-// length 2, and 1 at itself.
+// The bar of the longest element of A2, with z = v - v^-1: z^3 + z at the identity, z^2 at the generators, z at the
+// elements of length 2, and 1 at itself.
 #[test]
 fn the_longest_of_a2(rt: HostRuntime) -> Result<(), Fail> {
     let roots = roots_of(A2, 2)?;

@@ -1,5 +1,5 @@
-//! Tests of the Hecke algebra and of Kazhdan-Lusztig tables. What they expect was worked out by hand, or by another program along
-//! another road (`bench/kl/independent.py`, which knows no bar).
+//! Tests of the Hecke algebra and of Kazhdan-Lusztig tables. What they expect was worked out by hand, or by another
+//! program along another road (`bench/kl/independent.py`, which knows no bar).
 #![tactic(auto)]
 
 #[cfg(test)]

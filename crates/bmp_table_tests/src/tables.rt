@@ -7,7 +7,13 @@ use std::alloc::Global;
 use std::test::Fail;
 
 // The table of a word, with a limit.
-fn table_of(alloc: Global, rows: &[i64], rank: u8, word: &[u8], limit: i64) -> Result<Result<KlTable, KlError>, Fail>
+fn table_of(
+    alloc: Global,
+    rows: &[i64],
+    rank: u8,
+    word: &[u8],
+    limit: i64,
+) -> Result<Result<KlTable, KlError>, Fail>
     requires { length word.now < 2 ^ 32 }
 {
     let interval = interval_of(alloc, rows, rank, word)?;
@@ -37,7 +43,11 @@ fn the_square(rt: HostRuntime) -> Result<(), Fail> {
         (13, 1, 0),
     ] {
         if x < table.vertices() {
-            assert_eq!(rt; table.coefficient(x, exponent), coefficient, "{x} {exponent}");
+            assert_eq!(rt;
+                table.coefficient(x, exponent),
+                coefficient,
+                "{x} {exponent}"
+            );
         }
     }
     assert!(rt; self_dual(&table).is_ok());
@@ -87,7 +97,13 @@ fn checksum(alloc: Global, rows: &[i64], rank: u8, longest: &[u8]) -> Result<u64
 fn whole_groups(rt: HostRuntime) -> Result<(), Fail> {
     for (name, rows, rank, longest, sum) in [
         ("A3", A3, 3, [1, 2, 1, 3, 2, 1].as_slice(), 259_343),
-        ("B3", B3, 3, [1, 2, 1, 3, 2, 1, 3, 2, 3].as_slice(), 7_021_318),
+        (
+            "B3",
+            B3,
+            3,
+            [1, 2, 1, 3, 2, 1, 3, 2, 3].as_slice(),
+            7_021_318,
+        ),
         ("G2", G2, 2, [1, 2, 1, 2, 1, 2].as_slice(), 27_281),
     ] {
         assert!(rt; longest.len() < 100);

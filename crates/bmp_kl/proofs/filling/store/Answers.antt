@@ -12,7 +12,8 @@ loop-i-init c = copied_none (c.args.x * 73) (shifted c.args.row.now) c.args.sums
 pub loop-i-preserved : goal.loop-i-preserved
 loop-i-preserved c =
     let fits : FitsSigned w128 (get_or c.args.row.now (c.loop-i.i + 36) (pos 0)) = search rules in
-    copied_next (c.args.x * 73) c.loop-i.i (shifted c.args.row.now) c.args.sums.now c.loop-i.sums _ _ c.loop-i.invariant refl
+    copied_next (c.args.x * 73) c.loop-i.i (shifted c.args.row.now) c.args.sums.now c.loop-i.sums _ _ c.loop-i.invariant
+    refl
     (omega (arith, c.requires.inside)) (to_z-of_z w128 (get_or c.args.row.now (c.loop-i.i + 36) (pos 0)) fits)
 
 pub returns-clause-as_long : goal.returns-clause-as_long
@@ -24,4 +25,5 @@ returns-clause-here c i l = c.loop-i.invariant.copied i (omega arith)
 pub returns-clause-others : goal.returns-clause-others
 returns-clause-others c y i l off =
     row_kept c.args.x y i (shifted c.args.row.now) c.args.sums.now c.loop-i.sums
-    (subst (λ n. IsCopied (c.args.x * 73) n (shifted c.args.row.now) c.args.sums.now c.loop-i.sums) (omega arith) c.loop-i.invariant) l off
+    (subst (λ n. IsCopied (c.args.x * 73) n (shifted c.args.row.now) c.args.sums.now c.loop-i.sums) (omega arith)
+    c.loop-i.invariant) l off

@@ -13,8 +13,10 @@ loop-a-init c = copied_none 0 (tops_of c.args.count c.args.sums.now c.args.x) c.
 pub loop-a-preserved : goal.loop-a-preserved
 loop-a-preserved c =
     let fits : FitsSigned w128 c.top_at.result = search rules in
-    copied_next 0 c.loop-a.a (tops_of c.args.count c.args.sums.now c.args.x) c.args.tops.now c.loop-a.tops _ _ c.loop-a.invariant
-    (ap (λ i. set c.loop-a.tops i (to_z w128 (of_z w128 c.top_at.result))) (let same : c.loop-a.a ≡ 0 + c.loop-a.a = omega arith in same))
+    copied_next 0 c.loop-a.a (tops_of c.args.count c.args.sums.now c.args.x) c.args.tops.now c.loop-a.tops _ _
+    c.loop-a.invariant
+    (ap (λ i. set c.loop-a.tops i (to_z w128 (of_z w128 c.top_at.result)))
+    (let same : c.loop-a.a ≡ 0 + c.loop-a.a = omega arith in same))
     (omega (arith, c.requires.long)) (to_z-of_z w128 c.top_at.result fits ∙ c.top_at.ensures)
 
 pub returns-clause-long : goal.returns-clause-long
@@ -22,4 +24,5 @@ returns-clause-long c = c.loop-a.invariant.as_long ∙ c.requires.long
 
 pub returns-clause-tops : goal.returns-clause-tops
 returns-clause-tops c a l =
-    ap (λ i. get_or c.loop-a.tops i (pos 0)) (let same : a ≡ 0 + a = omega arith in same) ∙ c.loop-a.invariant.copied a (omega arith)
+    ap (λ i. get_or c.loop-a.tops i (pos 0)) (let same : a ≡ 0 + a = omega arith in same)
+    ∙ c.loop-a.invariant.copied a (omega arith)

@@ -6,5 +6,7 @@ use Rattle.bmp_kl.proofs.parts.add_bar.Given as goal
 
 abbrev pub invariant-loop-a : goal.invariant-loop-a
 invariant-loop-a l =
-    IsBarAdded l.a l.y l.tops (counts_below (matrix_of (system_of l.interval)) (positive_roots_of (system_of l.interval)) (vertices_of l.interval) l.y)
+    IsBarAdded l.a l.y l.tops
+    (counts_below (matrix_of (system_of l.interval)) (positive_roots_of (system_of l.interval))
+    (vertices_of l.interval) l.y)
     l.fn.parts.items l.parts.items

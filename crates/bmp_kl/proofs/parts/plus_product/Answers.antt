@@ -12,9 +12,11 @@ returns c =
     let top_fits : SFits w128 c.args.top = omega (arith, ints, c.requires.top) in
     let number_is : to_z w128 c.args.number ≡ pos c.args.number = omega (arith, ints, c.requires.number) in
     let within : IsWithin (2 ^ 36 * 1000000) (pos c.args.number *ℤ c.args.top) =
-    product_within (2 ^ 36) 1000000 (pos c.args.number) c.args.top (omega (arith, ints), omega (arith, ints, c.requires.number)) c.requires.top in
+    product_within (2 ^ 36) 1000000 (pos c.args.number) c.args.top
+    (omega (arith, ints), omega (arith, ints, c.requires.number)) c.requires.top in
     let product_fits : SFits w128 (pos c.args.number *ℤ c.args.top) = omega (arith, ints, within) in
-    let sum_fits : SFits w128 (c.args.part +ℤ pos c.args.number *ℤ c.args.top) = omega (arith, ints, within, c.requires.part) in
+    let sum_fits : SFits w128 (c.args.part +ℤ pos c.args.number *ℤ c.args.top) =
+    omega (arith, ints, within, c.requires.part) in
     ap (λ z. to_z w128 (of_z w128 z))
     (ap₂ (λ a b. a +ℤ b) (to_z-of_z w128 c.args.part part_fits)
     (ap (λ z. to_z w128 (of_z w128 z)) (ap₂ (λ a b. a *ℤ b) number_is (to_z-of_z w128 c.args.top top_fits))

@@ -7,13 +7,20 @@ use Rattle.bmp_kl.proofs.steps.vertex_products.Goals as goal
 
 pub loop-place-preserved : goal.loop-place-preserved
 loop-place-preserved c = (
-  omega (arith, ap length c.in_ok-push.ensures.items, length-append c.loop-place.products.items (c.product_number.result ∷ [])),
-  listed_more (λ q p. IsProductAt (matrix_of (system_of c.args.interval.now)) (word_below c.args.interval.now) (vertices_of c.args.interval.now) (q / 6) (q % 6) p)
-      c.loop-place.place c.loop-place.products.items _ c.product_number.result None c.loop-place.invariant.0 c.in_ok-push.ensures.items
+  omega (
+    arith,
+    ap length c.in_ok-push.ensures.items,
+    length-append c.loop-place.products.items (c.product_number.result ∷ []),
+  ),
+  listed_more (λ q p. IsProductAt (matrix_of (system_of c.args.interval.now)) (word_below c.args.interval.now)
+      (vertices_of c.args.interval.now) (q / 6) (q % 6) p)
+      c.loop-place.place c.loop-place.products.items _ c.product_number.result None c.loop-place.invariant.0
+      c.in_ok-push.ensures.items
       c.loop-place.invariant.1 c.product_number.ensures,
 )
 
 pub returns-clause-products : goal.returns-clause-products
 returns-clause-products c x k inside below =
-    product_placed (matrix_of (system_of c.args.interval.now)) (word_below c.args.interval.now) (vertices_of c.args.interval.now)
+    product_placed (matrix_of (system_of c.args.interval.now)) (word_below c.args.interval.now)
+    (vertices_of c.args.interval.now)
     c.loop-place.products.items x k below (c.loop-place.invariant.1 (x * 6 + k) (omega (arith, c.len.ensures.value)))

@@ -7,4 +7,5 @@ use Rattle.bmp_kl.proofs.steps.vertex_products.Given as goal
 abbrev pub invariant-loop-place : goal.invariant-loop-place
 invariant-loop-place l =
     (length l.products.items ≡ l.place)
-    × ((q : ℕ) → q < l.place → IsProductAt (matrix_of (system_of l.interval)) (word_below l.interval) (vertices_of l.interval) (q / 6) (q % 6) (get_or l.products.items q None))
+    × ((q : ℕ) → q < l.place → IsProductAt (matrix_of (system_of l.interval)) (word_below l.interval)
+    (vertices_of l.interval) (q / 6) (q % 6) (get_or l.products.items q None))

@@ -9,7 +9,8 @@ at_most a b m e l = omega arith
 
 pub step-requires-clause-level : goal.step-requires-clause-level
 step-requires-clause-level t c =
-    at_most _ _ _ (level_is c.requires.steps c.args.y _ c.requires.vertex c.index.ensures) (len_few c.requires.steps c.args.y c.requires.vertex)
+    at_most _ _ _ (level_is c.requires.steps c.args.y _ c.requires.vertex c.index.ensures)
+    (len_few c.requires.steps c.args.y c.requires.vertex)
 
 pub step-requires-clause-matched : goal.step-requires-clause-matched
 step-requires-clause-matched t c =
@@ -24,7 +25,12 @@ step-requires-clause-narrow t c v j inside k far =
     let within : v < length (vertices_of c.args.interval.now) = omega (arith, inside, count_is c.requires.steps) in
     c.bar.ensures.bar v j within k
     ∙ bar_narrow c.requires.steps c.args.y c.requires.vertex c.in-Some.descent c.in-Some.ensures.some v j within
-    (omega (arith, far, level_is c.requires.steps c.args.y _ c.requires.vertex c.index.ensures, length_at c.requires.steps v within))
+    (omega (
+      arith,
+      far,
+      level_is c.requires.steps c.args.y _ c.requires.vertex c.index.ensures,
+      length_at c.requires.steps v within,
+    ))
 
 pub step-requires-clause-small : goal.step-requires-clause-small
 step-requires-clause-small t c v j inside k =
@@ -40,4 +46,5 @@ returns-in-None-clause-bar t c x j inside k =
 pub returns-in-Some-clause-bar : goal.returns-in-Some-clause-bar
 returns-in-Some-clause-bar t c x j inside k =
     c.step.ensures.stepped x j (omega (arith, inside, count_is c.requires.steps)) k
-    ∙ step_is c.requires.steps c.args.y c.requires.vertex c.in-Some.descent c.in-Some.ensures.some _ c.bar.ensures.bar x j inside k
+    ∙ step_is c.requires.steps c.args.y c.requires.vertex c.in-Some.descent c.in-Some.ensures.some _ c.bar.ensures.bar x
+    j inside k

@@ -17,7 +17,8 @@ returns-after-loop-j-clause-kept c v j l off =
 pub returns-after-loop-j-clause-rows : goal.returns-after-loop-j-clause-rows
 returns-after-loop-j-clause-rows c n rows =
     deadened n c.args.x c.args.self.now.values.items c.loop-j.self.values.items c.args.self.now.live.items _ rows
-    (omega (arith, rows.as_many, c.requires.inside)) c.loop-j.invariant.0.0 (λ j l. c.loop-j.invariant.0.1 j (omega arith))
+    (omega (arith, rows.as_many, c.requires.inside)) c.loop-j.invariant.0.0
+    (λ j l. c.loop-j.invariant.0.1 j (omega arith))
     (λ v j l off.
     row_kept c.args.x v j c.args.self.now.values.items c.loop-j.self.values.items
     (λ i away. c.loop-j.invariant.0.2 i (elim away [ inl low ↦ inl low | inr high ↦ inr (omega arith) ])) l off)
