@@ -11,4 +11,4 @@ abbrev pub max_size : ℕ
 max_size = 400000
 
 abbrev pub max_version : ℕ
-max_version = 1
+max_version = 3

@@ -113,7 +113,7 @@ impl Parts {
 }
 
 /// The greatest version on the first line of a certificate.
-pub(crate) const MAX_VERSION: u8 = 1;
+pub(crate) const MAX_VERSION: u8 = 3;
 
 /// A certificate: its version, a job, and the part of each vertex, the greatest first. In version 1 the evidence is by
 /// whole section spaces, in versions 2 and 3 by levels; the versions 1 and 2 are of plain jobs, and 3 of all others.
