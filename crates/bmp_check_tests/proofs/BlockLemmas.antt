@@ -1,53 +1,36 @@
--- A block of parts whose sizes pass, beside their sheaf in memory.
-use Rattle.std.proofs.Common.{◌≡◌, ℕ, ◌<◌, ◌≤◌, List, length, refl, sym, ap, subst, ◌∙◌, arith}
+-- A block of parts whose sizes pass, by whole spaces, beside their sheaf in memory.
+use Rattle.std.proofs.Common.{◌≡◌, ℕ, ◌≤◌, length, refl, sym, ap, ◌∙◌}
+use Rattle.bmp_math.specs.Matrices.{Matrix}
 use Rattle.bmp_graph.specs.Graph.{Graph}
-use Rattle.bmp_sheaf.specs.Sheaves.{SheafData}
 use Rattle.bmp_sheaf.specs.States.{SheafState, sheaf_of}
 use Rattle.bmp_sections.specs.Positions.{position_count}
-use Rattle.bmp_sections.specs.Numbers.{is_above}
+use Rattle.bmp_sections.specs.Numbers.{is_above, equation_matrix}
 use Rattle.bmp_cert.specs.Counts.{Written}
+use Rattle.bmp_check.specs.declared.given.Given.{Given}
+use Rattle.bmp_check.specs.declared.method.Method.{Method}
+use Rattle.bmp_check.specs.declared.method.Method.TheVariants.{Spaces}
 use Rattle.bmp_check.specs.declared.sizes.BlockSizes.{BlockSizes}
-use Rattle.bmp_check.specs.declared.sizes.SizeTable.{SizeTable}
-use Rattle.bmp_check.specs.PartsSheaf.{parts_sheaf}
-use Rattle.bmp_check.specs.Shaped.{IsSheafOf, IsShaped}
-use Rattle.bmp_check.specs.Sizes.{counts_at, largest, block_of}
-use Rattle.bmp_check.specs.SizeTables.{AreSizesOf}
-use Rattle.bmp_check.specs.Verdicts.{HasBlock}
-use Rattle.bmp_check.proofs.InputLemmas.{IsAtBlock}
-use Rattle.bmp_check.proofs.SheafLemmas.{in_memory}
+use Rattle.bmp_check.specs.BlockData.{matrix_at}
+use Rattle.bmp_check.specs.Shaped.{HasWidth}
+use Rattle.bmp_check.specs.ShapedViews.{method_in, written_in}
+use Rattle.bmp_check.specs.Sizes.{counts_at}
+use Rattle.bmp_check.proofs.InputLemmas.{IsAtBlock, equations_are, kernel_room}
 
-pub at_block :
-    (G : Graph) (c : Written) (t : SizeTable) {F : Type 0} (kept s : SheafState F) (x d : ℕ) →
-    IsShaped G c t kept → HasBlock G c x d → s ≡ kept → IsAtBlock G c s x d (block_of c x d)
-at_block G c t {F = F} kept s x d whole block same = record {
-  checkable = whole.checkable;
-  counted = whole.count;
-  shape = whole.shape;
-  of = subst (λ (u : SheafState F). IsSheafOf G c u) (sym same) whole.sheaf;
-  block = block;
-  is = refl;
-}
+-- the sizes as they are read
+pub sizes_read :
+    (G H : Graph) (own g : Given) → H ≡ G → g ≡ own → method_in own ≡ Spaces → (x d : ℕ) (n : BlockSizes) →
+    n ≡ counts_at H (method_in g) (written_in g) x d → n ≡ counts_at G Spaces (written_in own) x d
+sizes_read G H own g graph given method x d n is =
+    is ∙ ap (λ (K : Graph). counts_at K (method_in g) (written_in g) x d) graph
+    ∙ ap (λ (e : Given). counts_at G (method_in e) (written_in e) x d) given ∙ ap (λ (m : Method). counts_at G m (written_in own) x d) method
 
--- the number of positions from the table of sizes
-pub positions_are :
-    (G : Graph) (c : Written) (t : SizeTable) {F : Type 0} (kept s : SheafState F) (x d : ℕ) →
-    IsShaped G c t kept → HasBlock G c x d → s ≡ kept →
-    (H : Graph) (own : SizeTable) (n : BlockSizes) → H ≡ G → own ≡ t →
-    ((e : Written) → AreSizesOf H e own → d ≤ e.degree → n ≡ counts_at H (parts_sheaf H e) x d) →
-    n.positions ≡ position_count s.graph (sheaf_of s) (is_above s.graph x) d
-positions_are G c t {F = F} kept s x d whole block same H own n graph table counted =
-    let of : IsSheafOf G c s = subst (λ (u : SheafState F). IsSheafOf G c u) (sym same) whole.sheaf in
-    let here : AreSizesOf H c own =
-    subst (λ (K : Graph). AreSizesOf K c own) (sym graph)
-    (subst (λ (u : SizeTable). AreSizesOf G c u) (sym table) whole.sizes) in
-    let is : n ≡ counts_at G (parts_sheaf G c) x d =
-    counted c here block.1 ∙ ap (λ (K : Graph). counts_at K (parts_sheaf K c) x d) graph in
-    in_memory G c whole.count s of (λ (K : Graph) (S : SheafData). n.positions ≡ position_count K S (is_above K x) d)
-    (ap (λ (m : BlockSizes). m.positions) is)
+module _ {G : Graph} {c : Written} {F : Type 0} {s : SheafState F} {x d : ℕ} (at : IsAtBlock G Spaces c s x d) where
+  equations : equation_matrix s.graph (sheaf_of s) x d ≡ matrix_at G Spaces c x d
+  equations = equations_are at refl
 
-pub positions_within :
-    (G : Graph) (c : Written) (t : SizeTable) {F : Type 0} (kept s : SheafState F) (x d n : ℕ) → IsShaped G c t kept → s ≡ kept →
-    largest (counts_at G (parts_sheaf G c) x d) ≤ n → position_count s.graph (sheaf_of s) (is_above s.graph x) d ≤ n
-positions_within G c t {F = F} kept s x d n whole same room =
-    let of : IsSheafOf G c s = subst (λ (u : SheafState F). IsSheafOf G c u) (sym same) whole.sheaf in
-    in_memory G c whole.count s of (λ (K : Graph) (S : SheafData). position_count K S (is_above K x) d ≤ n) (omega (arith, room))
+  -- there are as many columns as positions
+  pub positions_are : (n : BlockSizes) → n ≡ counts_at G Spaces c x d → n.columns ≡ position_count s.graph (sheaf_of s) (is_above s.graph x) d
+  positions_are n is = ap (λ (k : BlockSizes). k.columns) is ∙ ap (λ (m : Matrix). m.cols) (sym equations)
+
+  pub positions_within : (n : ℕ) → HasWidth G Spaces c n → position_count s.graph (sheaf_of s) (is_above s.graph x) d ≤ n
+  positions_within n width = kernel_room at equations refl n width

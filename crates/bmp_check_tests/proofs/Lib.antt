@@ -1,2 +1,2 @@
-pub mod SquareLemmas
+pub mod FixtureLemmas
 pub mod BlockLemmas

@@ -39,6 +39,7 @@ certified input text (fits, found) =
           well_formed = found.1.0;
           is_text = found.1.1;
           only = λ d formed of_d. whole_same cert cert_text IsWellFormed cert_pair d c formed found.1.0 (sym of_d ∙ found.1.1);
+          version = checkable.version;
           rules = report.0;
           graph = report.1.1;
           sheaf = passed_is_braden_macpherson G c.version (written_by c) checkable report.1.2;

@@ -1,7 +1,7 @@
 //! The command `check`: whether the input is a certificate that holds, and its ranks.
-ghost use Rattle.std.specs.Prelude.{◌≤◌, IfOk};
+ghost use Rattle.std.specs.Prelude.{◌≡◌, ◌≤◌, IfOk};
 ghost use Rattle.bmp_cert.specs.CertGrammar.{IsWellFormed};
-ghost use Rattle.bmp_cert.specs.JobViews.{graph_of, prepared_of};
+ghost use Rattle.bmp_cert.specs.JobViews.{job_of, graph_of, prepared_of};
 ghost use Rattle.bmp_check.specs.Accepted.{IsAccepted};
 ghost use Rattle.bmp_program.specs.Reports.{CertReport, CertTextReport};
 ghost use Rattle.bmp_program.specs.Runs.{answer_view};
@@ -24,6 +24,7 @@ fn verdict_on(
     workers: u32,
 ) -> Result<Answer, AllocError>
     requires accepted { IsAccepted (graph_of (prepared_of accepted.now)) cert.now }
+    requires job { cert.now.job ≡ job_of (prepared_of accepted.now) }
     requires workers { (1 ≤ workers) × (workers ≤ 32) }
     ensures { IfOk result (λ a. CertReport cert.now (answer_view a).status (answer_view a).text) }
 {
