@@ -139,14 +139,7 @@ fn is_part(v: &VertexPart, version: u8, most: u8, degree: u8) -> bool
 }
 
 // The part of the vertex of a number.
-fn is_part_at(
-    v: &VertexPart,
-    version: u8,
-    last: u64,
-    number: u64,
-    most: u8,
-    degree: u8,
-) -> bool
+fn is_part_at(v: &VertexPart, version: u8, last: u64, number: u64, most: u8, degree: u8) -> bool
     ensures { IsTrue result ↔ IsPartAt version last most degree number v.now }
 {
     if number == last {

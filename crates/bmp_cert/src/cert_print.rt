@@ -110,12 +110,7 @@ fn push_level_counts(out: &mut Vec<u8>, degree: u64, n: LineCounts) -> Result<()
 }
 
 // The first line of a block, as the version has it.
-fn push_counts(
-    out: &mut Vec<u8>,
-    version: u8,
-    degree: u64,
-    n: LineCounts,
-) -> Result<(), AllocError>
+fn push_counts(out: &mut Vec<u8>, version: u8, degree: u64, n: LineCounts) -> Result<(), AllocError>
     ensures { OnOk result (out.new.items ≡ out.old.items
         ++ line_text (codes "block") (line_counts_text version degree n)) }
 {
@@ -200,12 +195,7 @@ fn push_vertex(out: &mut Vec<u8>, number: u64, degrees: &Degrees) -> Result<(), 
 }
 
 // A vertex that isn't the greatest.
-fn push_part(
-    out: &mut Vec<u8>,
-    version: u8,
-    number: u64,
-    v: &VertexPart,
-) -> Result<(), AllocError>
+fn push_part(out: &mut Vec<u8>, version: u8, number: u64, v: &VertexPart) -> Result<(), AllocError>
     ensures { OnOk result (out.new.items ≡ out.old.items ++ part_text version number v.now) }
 {
     push_vertex(out, number, &v.degrees)?;

@@ -110,14 +110,7 @@ fn part_of(
     let edges = count_line(lines, b"edges", 0)?;
     let count = u64::from(edges) * u64::from(degrees.len());
     let lifts = vectors_of(alloc, lines, b"lift", most, count)?;
-    let blocks = blocks_of(
-        alloc,
-        lines,
-        version,
-        most,
-        &degrees,
-        u64::from(degree) + 1,
-    )?;
+    let blocks = blocks_of(alloc, lines, version, most, &degrees, u64::from(degree) + 1)?;
     Ok(VertexPart {
         degrees,
         edges,

@@ -113,7 +113,11 @@ pub fn print_job(alloc: Global, j: &Job) -> Result<Vec<u8>, AllocError>
     ensures { IfOk result (λ v. v.items ≡ job_text j.now) }
 {
     let mut out = Vec::new(alloc);
-    push_single(&mut out, b"bmp-job", if j.lattice.has_line() { 2 } else { 1 })?;
+    push_single(
+        &mut out,
+        b"bmp-job",
+        if j.lattice.has_line() { 2 } else { 1 },
+    )?;
     push_lattice(&mut out, j.lattice)?;
     push_lines(&mut out, j)?;
     out.extend_from_slice(b"end\n")?;

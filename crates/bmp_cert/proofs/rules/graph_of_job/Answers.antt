@@ -21,9 +21,11 @@ returns-in-Ok-clause-bruhat c =
 pub returns-in-Ok-clause-kept : goal.returns-in-Ok-clause-kept
 returns-in-Ok-clause-kept c =
     let j = c.args.j.now in
-    keeps_both j size_rules (HasLabels ∷ []) c.requires.before
-    (graph_has_labels j (system_of c.args.interval.now) (vertices_of c.args.interval.now) c.requires.system c.requires.interval c.in-Ok.graph
-    (returns-in-Ok-clause-bruhat c) c.in-Ok.ensures.graph, tt)
+    keeps_both j size_rules (HasLabels ∷ []) c.requires.before (
+      graph_has_labels j (system_of c.args.interval.now) (vertices_of c.args.interval.now) c.requires.system c.requires.interval c.in-Ok.graph
+          (returns-in-Ok-clause-bruhat c) c.in-Ok.ensures.graph,
+      tt,
+    )
 
 pub returns-in-Err-ZeroLabel-clause-fault : goal.returns-in-Err-ZeroLabel-clause-fault
 returns-in-Err-ZeroLabel-clause-fault c =
