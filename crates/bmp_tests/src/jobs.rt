@@ -133,7 +133,15 @@ fn jobs_by_the_fundamental_weights(rt: HostRuntime) -> Result<(), Fail> {
         (ROOT, A2, "3", "2 1 2", "gkm", Status::Done, SQUARE_HOLDS),
         (WEIGHT, A2, "5", "2 1 2", "gkm", Status::Done, SQUARE_HOLDS),
         (WEIGHT, A1, "3", "1 1", "graph", Status::Done, WEIGHT_LINE),
-        (WEIGHT, A2, "5", "2 1 2", "graph", Status::Done, WEIGHT_SQUARE),
+        (
+            WEIGHT,
+            A2,
+            "5",
+            "2 1 2",
+            "graph",
+            Status::Done,
+            WEIGHT_SQUARE,
+        ),
     ] {
         let text = job(rt.alloc(), head, rows, prime, word, "0")?;
         assert_run(&rt, rt.alloc(), command, &text, status, written)?;
