@@ -451,8 +451,11 @@ module _ {p : ℕ} {old new a t : Matrix} {ps chosen w u : List ℕ} {count : �
                 (omega (arith, h.as_many))
             | inr other ↦
                 let early : k + 1 < length chosen = omega (arith, chosen_count, height) in
-                rw (get_or_append_left chosen (count ∷ []) 0 k (omega arith), get_or_append_left chosen (count ∷ []) 0
-                (k + 1) early) (h.choice.rise k early)
+                rw (
+                  get_or_append_left chosen (count ∷ []) 0 k (omega arith),
+                  get_or_append_left chosen (count ∷ []) 0
+                      (k + 1) early,
+                ) (h.choice.rise k early)
           ];
           below = All-push (λ i. i < new.rows) chosen count (λ k d l. let below = h.choice.below k d l in omega (
             arith,

@@ -179,7 +179,14 @@ fn grown<F: Field, A: RowSpace<F>>(
     ensures cols { IfOk result (λ b. (A.matrix b.rows).cols ≡ (A.matrix basis.rows).cols) }
 {
     row.spread(numbers);
-    reduce_row(f, &basis.rows, &basis.trace, &basis.pivots, numbers, factors);
+    reduce_row(
+        f,
+        &basis.rows,
+        &basis.trace,
+        &basis.pivots,
+        numbers,
+        factors,
+    );
     match first_place(numbers) {
         Some(pivot) => Ok(push_pivot(f, basis, pivot, numbers, factors)?),
         None => {
@@ -264,7 +271,14 @@ fn written<F: Field, A: Rows<F> + Drop>(
         (WritesRow (F.size f.now) old basis.now.chosen (number_at row.now))) }
 {
     row.spread(numbers);
-    reduce_row(f, &basis.rows, &basis.trace, &basis.pivots, numbers, factors);
+    reduce_row(
+        f,
+        &basis.rows,
+        &basis.trace,
+        &basis.pivots,
+        numbers,
+        factors,
+    );
     match first_place(numbers) {
         Some(_) => Ok(None),
         None => {

@@ -18,8 +18,13 @@ reduce_row-requires-clause-row g c =
 pub push_pivot-requires-clause-room : goal.push_pivot-requires-clause-room
 push_pivot-requires-clause-room g c =
     let grown = c.requires.some.grown in
-    let within : c.in-Some.pivot < (g.A.Rows.matrix c.args.basis.rows).cols = omega (arith, c.requires.width,
-    c.spread.auto.into, c.reduce_row.auto.numbers, c.in-Some.ensures.within) in
+    let within : c.in-Some.pivot < (g.A.Rows.matrix c.args.basis.rows).cols = omega (
+      arith,
+      c.requires.width,
+      c.spread.auto.into,
+      c.reduce_row.auto.numbers,
+      c.in-Some.ensures.within,
+    ) in
     let few : (g.A.Rows.matrix c.args.basis.rows).rows < (g.A.Rows.matrix c.args.basis.rows).cols =
     leading_few c.reduce_row.new.numbers c.in-Some.pivot grown.leading c.reduce_row.ensures.zero within
     c.in-Some.ensures.not_zero in
@@ -30,15 +35,22 @@ pub returns-in_ok-push_pivot-in-Some-clause-grown : goal.returns-in_ok-push_pivo
 returns-in_ok-push_pivot-in-Some-clause-grown g c = λ old new h pushed.
     let p = g.F.Field.size c.args.f.now in
     let two : 2 ≤ p = g.met.F.Field.laws.at_least_two c.args.f.now in
-    let wide : length c.reduce_row.new.numbers ≡ (g.A.Rows.matrix c.args.basis.rows).cols = omega (arith,
-    c.requires.width, c.spread.auto.into, c.reduce_row.auto.numbers) in
+    let wide : length c.reduce_row.new.numbers ≡ (g.A.Rows.matrix c.args.basis.rows).cols = omega (
+      arith,
+      c.requires.width,
+      c.spread.auto.into,
+      c.reduce_row.auto.numbers,
+    ) in
     let left : IsRemainder p (length c.args.basis.pivots) (g.A.Rows.matrix c.args.basis.rows)
     (g.A.Rows.matrix c.args.basis.trace) c.args.basis.pivots (number_at c.args.row.now) c.reduce_row.new.numbers
     c.reduce_row.new.factors =
     remainder_as (λ j l. c.spread.ensures j (omega (arith, c.requires.width, c.spread.auto.into, l)))
     c.reduce_row.ensures in
-    let within : c.in-Some.pivot < (g.A.Rows.matrix c.args.basis.rows).cols = omega (arith, wide,
-    c.in-Some.ensures.within) in
+    let within : c.in-Some.pivot < (g.A.Rows.matrix c.args.basis.rows).cols = omega (
+      arith,
+      wide,
+      c.in-Some.ensures.within,
+    ) in
     let few = leading_few c.reduce_row.new.numbers c.in-Some.pivot h.leading left.zero within
     c.in-Some.ensures.not_zero in
     let b = c.in_ok-push_pivot-in-Some in
@@ -50,8 +62,12 @@ pub returns-in-None-clause-grown : goal.returns-in-None-clause-grown
 returns-in-None-clause-grown g c = λ old new h pushed.
     let p = g.F.Field.size c.args.f.now in
     let two : 2 ≤ p = g.met.F.Field.laws.at_least_two c.args.f.now in
-    let wide : length c.reduce_row.new.numbers ≡ (g.A.Rows.matrix c.args.basis.rows).cols = omega (arith,
-    c.requires.width, c.spread.auto.into, c.reduce_row.auto.numbers) in
+    let wide : length c.reduce_row.new.numbers ≡ (g.A.Rows.matrix c.args.basis.rows).cols = omega (
+      arith,
+      c.requires.width,
+      c.spread.auto.into,
+      c.reduce_row.auto.numbers,
+    ) in
     let left : IsRemainder p (length c.args.basis.pivots) (g.A.Rows.matrix c.args.basis.rows)
     (g.A.Rows.matrix c.args.basis.trace) c.args.basis.pivots (number_at c.args.row.now) c.reduce_row.new.numbers
     c.reduce_row.new.factors =
@@ -67,9 +83,13 @@ returns-in_ok-push_pivot-in-Some-clause-needed g c = λ old h.
     c.reduce_row.new.factors =
     remainder_as (λ j l. c.spread.ensures j (omega (arith, c.requires.width, c.spread.auto.into, l)))
     c.reduce_row.ensures in
-    let within : c.in-Some.pivot < (g.A.Rows.matrix c.args.basis.rows).cols = omega (arith, c.requires.width,
-    c.spread.auto.into, c.reduce_row.auto.numbers, c.in-Some.ensures.within) in
-    (
+    let within : c.in-Some.pivot < (g.A.Rows.matrix c.args.basis.rows).cols = omega (
+      arith,
+      c.requires.width,
+      c.spread.auto.into,
+      c.reduce_row.auto.numbers,
+      c.in-Some.ensures.within,
+    ) in (
       (λ same. absurd (longer c.args.basis.chosen c.args.basis.count (sym c.in_ok-push_pivot-in-Some.ensures.chosen
           ∙ same))),
       (λ made. absurd (c.in-Some.ensures.not_zero (nothing_left h left made c.in-Some.pivot within))),
@@ -79,14 +99,17 @@ pub returns-in-None-clause-needed : goal.returns-in-None-clause-needed
 returns-in-None-clause-needed g c = λ old h.
     let p = g.F.Field.size c.args.f.now in
     let two : 2 ≤ p = g.met.F.Field.laws.at_least_two c.args.f.now in
-    let wide : length c.reduce_row.new.numbers ≡ (g.A.Rows.matrix c.args.basis.rows).cols = omega (arith,
-    c.requires.width, c.spread.auto.into, c.reduce_row.auto.numbers) in
+    let wide : length c.reduce_row.new.numbers ≡ (g.A.Rows.matrix c.args.basis.rows).cols = omega (
+      arith,
+      c.requires.width,
+      c.spread.auto.into,
+      c.reduce_row.auto.numbers,
+    ) in
     let left : IsRemainder p (length c.args.basis.pivots) (g.A.Rows.matrix c.args.basis.rows)
     (g.A.Rows.matrix c.args.basis.trace) c.args.basis.pivots (number_at c.args.row.now) c.reduce_row.new.numbers
     c.reduce_row.new.factors =
     remainder_as (λ j l. c.spread.ensures j (omega (arith, c.requires.width, c.spread.auto.into, l)))
-    c.reduce_row.ensures in
-    (
+    c.reduce_row.ensures in (
       (λ same. record {
         factors = λ l. (p - 1) * get_or c.reduce_row.new.factors l 0;
         sums = written_by_chosen two h (pushed_made old (number_at c.args.row.now)) left c.in-None.ensures wide;

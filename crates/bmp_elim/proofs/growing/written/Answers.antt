@@ -31,16 +31,25 @@ returns-in-Some g c = λ old h made.
     (number_at c.args.row.now) c.reduce_row.new.numbers c.reduce_row.new.factors =
     remainder_as (λ j l. c.spread.ensures j (omega (arith, c.requires.width, c.spread.auto.into, l)))
     c.reduce_row.ensures in
-    c.in-Some.ensures.not_zero (nothing_left h left made _ (omega (arith, c.requires.width, c.spread.auto.into,
-    c.reduce_row.auto.numbers, c.in-Some.ensures.within)))
+    c.in-Some.ensures.not_zero (nothing_left h left made _ (omega (
+      arith,
+      c.requires.width,
+      c.spread.auto.into,
+      c.reduce_row.auto.numbers,
+      c.in-Some.ensures.within,
+    )))
 
 -- nothing is left
 pub returns-in_ok-vector-in-None : goal.returns-in_ok-vector-in-None
 returns-in_ok-vector-in-None g c = λ old h.
     let p = g.F.Field.size c.args.f.now in
     let two : 2 ≤ p = g.met.F.Field.laws.at_least_two c.args.f.now in
-    let wide : length c.reduce_row.new.numbers ≡ (g.A.Rows.matrix c.args.basis.now.rows).cols = omega (arith,
-    c.requires.width, c.spread.auto.into, c.reduce_row.auto.numbers) in
+    let wide : length c.reduce_row.new.numbers ≡ (g.A.Rows.matrix c.args.basis.now.rows).cols = omega (
+      arith,
+      c.requires.width,
+      c.spread.auto.into,
+      c.reduce_row.auto.numbers,
+    ) in
     let left : IsRemainder p (length c.args.basis.now.pivots) (g.A.Rows.matrix c.args.basis.now.rows)
     (g.A.Rows.matrix c.args.basis.now.trace) c.args.basis.now.pivots (number_at c.args.row.now)
     c.reduce_row.new.numbers c.reduce_row.new.factors =
