@@ -343,8 +343,7 @@ fn first_columns<F: Field, A: RowSpace<F>>(
     Ok(first)
 }
 
-/// The elimination of the chosen rows, with a trace of as many rows and columns as were chosen. What it answers
-/// of these it answers of all rows that came, since they have the same kernel.
+/// The elimination of the chosen rows, with a trace of as many rows and columns as were chosen.
 pub fn eliminate_chosen<F: Field, A: RowSpace<F>>(
     alloc: Global,
     f: &F,
