@@ -22,15 +22,18 @@ pub sizes_read :
     n ≡ counts_at H (method_in g) (written_in g) x d → n ≡ counts_at G Spaces (written_in own) x d
 sizes_read G H own g graph given method x d n is =
     is ∙ ap (λ (K : Graph). counts_at K (method_in g) (written_in g) x d) graph
-    ∙ ap (λ (e : Given). counts_at G (method_in e) (written_in e) x d) given ∙ ap (λ (m : Method). counts_at G m (written_in own) x d) method
+    ∙ ap (λ (e : Given). counts_at G (method_in e) (written_in e) x d) given
+    ∙ ap (λ (m : Method). counts_at G m (written_in own) x d) method
 
 module _ {G : Graph} {c : Written} {F : Type 0} {s : SheafState F} {x d : ℕ} (at : IsAtBlock G Spaces c s x d) where
   equations : equation_matrix s.graph (sheaf_of s) x d ≡ matrix_at G Spaces c x d
   equations = equations_are at refl
 
   -- there are as many columns as positions
-  pub positions_are : (n : BlockSizes) → n ≡ counts_at G Spaces c x d → n.columns ≡ position_count s.graph (sheaf_of s) (is_above s.graph x) d
+  pub positions_are : (n : BlockSizes) → n ≡ counts_at G Spaces c x d →
+      n.columns ≡ position_count s.graph (sheaf_of s) (is_above s.graph x) d
   positions_are n is = ap (λ (k : BlockSizes). k.columns) is ∙ ap (λ (m : Matrix). m.cols) (sym equations)
 
-  pub positions_within : (n : ℕ) → HasWidth G Spaces c n → position_count s.graph (sheaf_of s) (is_above s.graph x) d ≤ n
+  pub positions_within : (n : ℕ) → HasWidth G Spaces c n →
+      position_count s.graph (sheaf_of s) (is_above s.graph x) d ≤ n
   positions_within n width = kernel_room at equations refl n width

@@ -62,14 +62,16 @@ square_on G is =
     }
 
 -- the lines of parts, of an equal version and over an equal prime
-pub formed_over : (G : Graph) (c : Cert) (v p : ℕ) → ArePartsOf v p c → G.prime ≡ p → HavePartLines v (G.prime - 1) 1 c.vertices
+pub formed_over : (G : Graph) (c : Cert) (v p : ℕ) → ArePartsOf v p c → G.prime ≡ p →
+    HavePartLines v (G.prime - 1) 1 c.vertices
 formed_over G c v p of prime =
     subst (λ (q : ℕ). HavePartLines v (q - 1) 1 c.vertices) (of.prime ∙ sym prime)
     (subst (λ (d : ℕ). HavePartLines v (c.job.prime - 1) d c.vertices) of.degree
     (subst (λ (u : ℕ). HavePartLines u (c.job.prime - 1) c.job.degree c.vertices) of.version of.formed.vertices))
 
 pub line_checkable :
-    (G : Graph) (c : Cert) (v : ℕ) → IsLine G → IsVersion v → ArePartsOf v 2 c → IsCheckable G v (record { degree = 1; parts = c.vertices })
+    (G : Graph) (c : Cert) (v : ℕ) → IsLine G → IsVersion v → ArePartsOf v 2 c →
+    IsCheckable G v (record { degree = 1; parts = c.vertices })
 line_checkable G c v is version of = record {
   version = version;
   on = line_on G is;
@@ -77,7 +79,8 @@ line_checkable G c v is version of = record {
   formed = formed_over G c v 2 of is.prime;
 }
 
-pub square_checkable : (G : Graph) (c : Cert) → IsDiagonalSquare G → ArePartsOf 1 3 c → IsCheckable G 1 (record { degree = 1; parts = c.vertices })
+pub square_checkable : (G : Graph) (c : Cert) → IsDiagonalSquare G → ArePartsOf 1 3 c →
+    IsCheckable G 1 (record { degree = 1; parts = c.vertices })
 square_checkable G c is of = record {
   version = (omega arith, omega arith);
   on = square_on G is;

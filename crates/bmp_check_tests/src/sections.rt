@@ -61,9 +61,7 @@ fn section_at(
 {
     let tuple = Vector::of_numbers(alloc, &numbers)?;
     let sizes = s.sizes().block(s.graph(), s.given(), x, d);
-    if !tuple.fits(u32::try_from(sizes.columns)?)
-        || !tuple.is_below(u32::from(s.graph().prime()))
-    {
+    if !tuple.fits(u32::try_from(sizes.columns)?) || !tuple.is_below(u32::from(s.graph().prime())) {
         return Err(Fail::new("the numbers make no tuple"));
     }
     let sheaf = s.sheaf();
@@ -104,8 +102,8 @@ fn equations_of_the_square(rt: HostRuntime) -> Result<(), Fail> {
     Ok(())
 }
 
-/// In degree 1 a tuple over 1, 2 and 3 has two coordinates at each; equal on the edge 3 are the first ones at 1 and 3, and
-/// on the edge 4 the second ones at 2 and 3.
+/// In degree 1 a tuple over 1, 2 and 3 has two coordinates at each; equal on the edge 3 are the first ones at 1 and 3,
+/// and on the edge 4 the second ones at 2 and 3.
 #[test]
 fn sections_of_the_square(rt: HostRuntime) -> Result<(), Fail> {
     let graph = diagonal_square(rt.alloc())?;

@@ -179,8 +179,8 @@ fn refused(degree: u32, kind: Kind, index: u64, left: u64, right: u64) -> Option
     }))
 }
 
-/// One line changed in each, of each kind. Sizes are compared in the order of the text, behind the edge and its lift; covers come
-/// before kernels.
+/// One line changed in each, of each kind. Sizes are compared in the order of the text, behind the edge and its lift;
+/// covers come before kernels.
 #[test]
 fn line_by_levels(rt: HostRuntime) -> Result<(), Fail> {
     let graph = line(rt.alloc())?;
@@ -273,8 +273,7 @@ fn line_by_levels(rt: HostRuntime) -> Result<(), Fail> {
 fn two_generators_above_the_line(rt: HostRuntime) -> Result<(), Fail> {
     let graph = line(rt.alloc())?;
     let vertices = "vertex 1 2 0 0\nvertex 0 1 0\nedges 1\nlift 1 0 1\n";
-    let block =
-        "block 0 1 1 0\npivots 0\ncover 0\nsource 1 0 1\ndual 1 0 1\nrow 1 0 1\n";
+    let block = "block 0 1 1 0\npivots 0\ncover 0\nsource 1 0 1\ndual 1 0 1\nrow 1 0 1\n";
     let found = verdict_by_levels(&rt, rt.alloc(), &graph, vertices, block, BLOCK_1)?.err();
     let wanted = CheckError::Refused(Refusal {
         vertex: 1,
@@ -294,7 +293,11 @@ fn ranks_of_the_line_by_levels(rt: HostRuntime) -> Result<(), Fail> {
     let graph = line(rt.alloc())?;
     let ranks = verdict_by_levels(&rt, rt.alloc(), &graph, VERTICES, BLOCK_0, BLOCK_1)??;
     for (x, counts) in [(0, [1, 0]), (1, [1, 0])] {
-        assert_eq!(rt; [ranks.count(x, 0), ranks.count(x, 1)], counts, "vertex {x}");
+        assert_eq!(rt;
+            [ranks.count(x, 0), ranks.count(x, 1)],
+            counts,
+            "vertex {x}"
+        );
     }
     Ok(())
 }

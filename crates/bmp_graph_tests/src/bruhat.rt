@@ -43,8 +43,8 @@ fn edges_of_b2(rt: HostRuntime) -> Result<(), Fail> {
     Ok(())
 }
 
-/// Modulo 2 the roots (1, 0) and (1, 2) of B2 are equal. By the fundamental weights the two simple roots of A2 are equal
-/// modulo 3.
+/// Modulo 2 the roots (1, 0) and (1, 2) of B2 are equal. By the fundamental weights the two simple roots of A2 are
+/// equal modulo 3.
 #[test]
 fn first_parallel_edges(rt: HostRuntime) -> Result<(), Fail> {
     let at_0 = |first, second| {

@@ -1,4 +1,5 @@
-//! Tests of root systems, elements, intervals and moment graphs. What they expect was worked out by hand or by another program.
+//! Tests of root systems, elements, intervals and moment graphs. What they expect was worked out by hand or by another
+//! program.
 #![tactic(auto)]
 
 #[cfg(test)]

@@ -16,10 +16,18 @@ use Rattle.bmp_program.specs.Runs.{Report}
 use Rattle.bmp_program.specs.declared.status.Status.TheVariants.{Done, Refused}
 
 module _ (G : Graph) (c : Cert) (accepted : IsAccepted G c) (text : List ℕ) (answer : Report) where
-  pub passed_report : Passes G c.version (written_by c) → text ≡ cert_rank_lines c → answer ≡ record { status = Done; text = text } → CertReport c answer.status answer.text
-  passed_report passes lines is = subst (λ (r : Report). CertReport c r.status r.text) (sym is) (accepted.rules, (G, accepted.graph, passes, lines))
+  pub passed_report : Passes G c.version (written_by c) → text ≡ cert_rank_lines c →
+      answer ≡ record { status = Done; text = text } → CertReport c answer.status answer.text
+  passed_report passes lines is =
+      subst (λ (r : Report). CertReport c r.status r.text) (sym is) (accepted.rules, (G, accepted.graph, passes, lines))
 
-  pub refused_report : (e : CheckError) (refusal : Refusal) → e ≡ IsRefused refusal → IsRefusedBy (IsFirstRefusal G c.version (written_by c)) e → text ≡ refusal_text refusal → answer ≡ record { status = Refused; text = text } → CertReport c answer.status answer.text
+  pub refused_report : (e : CheckError) (refusal : Refusal) → e ≡ IsRefused refusal →
+      IsRefusedBy (IsFirstRefusal G c.version (written_by c)) e → text ≡ refusal_text refusal →
+      answer ≡ record { status = Refused; text = text } → CertReport c answer.status answer.text
   refused_report e refusal of_e by line is =
-      let first : IsRefusedBy (IsFirstRefusal G c.version (written_by c)) (IsRefused refusal) = subst (λ (e : CheckError). IsRefusedBy (IsFirstRefusal G c.version (written_by c)) e) of_e by in
-      subst (λ (r : Report). CertReport c r.status r.text) (sym is) (accepted.rules, (G, accepted.graph, (refusal, first.0, line)))
+      let first : IsRefusedBy (IsFirstRefusal G c.version (written_by c)) (IsRefused refusal) =
+      subst (λ (e : CheckError). IsRefusedBy (IsFirstRefusal G c.version (written_by c)) e) of_e by in
+      subst (λ (r : Report). CertReport c r.status r.text) (sym is) (
+        accepted.rules,
+        (G, accepted.graph, (refusal, first.0, line)),
+      )

@@ -38,7 +38,8 @@ certified input text (fits, found) =
         record {
           well_formed = found.1.0;
           is_text = found.1.1;
-          only = λ d formed of_d. whole_same cert cert_text IsWellFormed cert_pair d c formed found.1.0 (sym of_d ∙ found.1.1);
+          only = λ d formed of_d. whole_same cert cert_text IsWellFormed cert_pair d c formed found.1.0
+              (sym of_d ∙ found.1.1);
           version = checkable.version;
           rules = report.0;
           graph = report.1.1;
@@ -50,7 +51,8 @@ certified input text (fits, found) =
       ),
     )
 
-check_report : (words : List Text) (input text : List ℕ) (status : Status) → asked words ≡ Some Check → status ≡ Done → IsReport words input status text → InputReport Check input Done text
+check_report : (words : List Text) (input text : List ℕ) (status : Status) → asked words ≡ Some Check → status ≡ Done →
+    IsReport words input status text → InputReport Check input Done text
 unfolding IsReport
 check_report words input text status asks done report =
     let by_command : CommandReport (Some Check) input status text =
@@ -59,7 +61,8 @@ check_report words input text status asks done report =
 
 -- ---- the report on what the source has left
 
-written : (left before after : Option (List ℕ)) (input text : List ℕ) → Holds left input → InputReport Check input Done text → Takes before after text → IsCertified left before after
+written : (left before after : Option (List ℕ)) (input text : List ℕ) → Holds left input →
+    InputReport Check input Done text → Takes before after text → IsCertified left before after
 written None before after input text held report takes = tt
 written (Some left) before after input text held report takes =
     let found : Certified input text = certified input text report in (
@@ -71,7 +74,8 @@ written (Some left) before after input text held report takes =
       ),
     )
 
-passed_input : (left : Option (List ℕ)) (input text : List ℕ) → Holds left input → InputReport Check input Done text → HasPassed left
+passed_input : (left : Option (List ℕ)) (input text : List ℕ) → Holds left input → InputReport Check input Done text →
+    HasPassed left
 unfolding InputReport
 passed_input None input text held report = tt
 passed_input (Some left) input text held (fits, found) =
@@ -80,7 +84,9 @@ passed_input (Some left) input text held (fits, found) =
 
 -- ---- the answer of `check` with status 0
 
-module _ (words : List Text) (left : Option (List ℕ)) (rose : Type 0) (answer : Report) (decided : IsDecided (IsReport words) left rose answer) (asks : asked words ≡ Some Check) (done : answer.status ≡ Done) where
+module _ (words : List Text) (left : Option (List ℕ)) (rose : Type 0) (answer : Report)
+    (decided : IsDecided (IsReport words) left rose answer) (asks : asked words ≡ Some Check)
+    (done : answer.status ≡ Done) where
   found : Reports (IsReport words) left answer
   found = subst (λ (s : Status). DecidedBy s (IsReport words) left rose answer) done decided
 

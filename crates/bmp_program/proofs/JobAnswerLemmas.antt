@@ -52,13 +52,16 @@ early_status j (TooLarge n) none h = refl
 early_status j (ZeroLabel x y) none h = refl
 early_status j (Gkm p) none h = absurd (none (keeps_before j graph_rules (HasGkmGraph ∷ []) 0 h.fails))
 
-pub graph_fault : (j : Job) (s : Status) (text : List ℕ) → (KeepsAll graph_rules j → ⊥) → JobReport j s text → GraphReport j s text
+pub graph_fault : (j : Job) (s : Status) (text : List ℕ) → (KeepsAll graph_rules j → ⊥) → JobReport j s text →
+    GraphReport j s text
 graph_fault j s text none is =
     let bad : s ≡ BadJob = is.2 ∙ early_status j is.0 none is.1 in
     subst (λ (t : Status). GraphReport j t text) (sym bad) (subst (λ (t : Status). JobReport j t text) bad is)
 
 -- where all rules that are tried hold, the text is that of the job's graph
-pub graph_done : (j : Job) (interval : Interval) (g : Graph) (text : List ℕ) (answer : Report) → KeepsAll graph_rules j → IsPrepared j interval g → text ≡ graph_text (system_of interval) (vertices_of interval) g → answer ≡ record { status = Done; text = text } → GraphReport j answer.status answer.text
+pub graph_done : (j : Job) (interval : Interval) (g : Graph) (text : List ℕ) (answer : Report) →
+    KeepsAll graph_rules j → IsPrepared j interval g → text ≡ graph_text (system_of interval) (vertices_of interval) g →
+    answer ≡ record { status = Done; text = text } → GraphReport j answer.status answer.text
 graph_done j interval g text answer kept prepared text_is is =
     let of : IsJobGraph j g = record {
       roots = system_of interval;
@@ -70,5 +73,7 @@ graph_done j interval g text answer kept prepared text_is is =
     } in
     subst (λ (r : Report). GraphReport j r.status r.text) (sym is) (kept, (g, of, text_is))
 
-pub gkm_done : (j : Job) (g : Graph) (text : List ℕ) (answer : Report) → KeepsAll rules j → IsJobGraph j g → text ≡ gkm_text g → answer ≡ record { status = Done; text = text } → GkmReport j answer.status answer.text
-gkm_done j g text answer kept of text_is is = subst (λ (r : Report). GkmReport j r.status r.text) (sym is) (kept, (g, of, text_is))
+pub gkm_done : (j : Job) (g : Graph) (text : List ℕ) (answer : Report) → KeepsAll rules j → IsJobGraph j g →
+    text ≡ gkm_text g → answer ≡ record { status = Done; text = text } → GkmReport j answer.status answer.text
+gkm_done j g text answer kept of text_is is =
+    subst (λ (r : Report). GkmReport j r.status r.text) (sym is) (kept, (g, of, text_is))

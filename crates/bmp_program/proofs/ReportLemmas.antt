@@ -11,7 +11,8 @@ use Rattle.bmp_program.specs.declared.status.Status.{Status}
 use Rattle.bmp_program.specs.declared.status.Status.TheVariants.{Done, Refused, BadText, BadJob, GkmFailed, ReadFault, WriteFault, NoMemory, TooLong, Usage}
 
 -- all that is left came
-pub whole_held : (left after : Option (List ℕ)) (input : List ℕ) → Passes left after input → IsAtEnd after → Holds left input
+pub whole_held : (left after : Option (List ℕ)) (input : List ℕ) → Passes left after input → IsAtEnd after →
+    Holds left input
 whole_held None None input passes end = tt
 whole_held None (Some after) input passes end = absurd passes
 whole_held (Some left) None input passes end = absurd passes
@@ -20,19 +21,24 @@ whole_held (Some left) (Some after) input passes end = passes ∙ (ap (λ t. inp
 abbrev too_long : Report
 too_long = record { status = TooLong; text = codes "input too long\n" }
 
-long : (command : CommandWord) (input : List ℕ) → input_limit < length input → InputReport command input TooLong (codes "input too long\n")
+long : (command : CommandWord) (input : List ℕ) → input_limit < length input →
+    InputReport command input TooLong (codes "input too long\n")
 unfolding InputReport
 long command input more = (more, refl)
 
-long_reported : (command : CommandWord) (left after : Option (List ℕ)) → PassesExactly left after (input_limit + 1) → Reports (InputReport command) left too_long
+long_reported : (command : CommandWord) (left after : Option (List ℕ)) → PassesExactly left after (input_limit + 1) →
+    Reports (InputReport command) left too_long
 long_reported command None None (bytes, size, passes) = (bytes, tt, long command bytes (omega (arith, size)))
 long_reported command None (Some after) (bytes, size, passes) = absurd passes
 long_reported command (Some left) None (bytes, size, passes) = absurd passes
 long_reported command (Some left) (Some after) (bytes, size, passes) =
     (left, refl, long command left (omega (arith, size, length-append bytes after, ap length passes)))
 
-pub long_decided : (command : CommandWord) (left after : Option (List ℕ)) (rose : Type 0) (answer : Report) → answer ≡ too_long → PassesExactly left after (input_limit + 1) → IsDecided (InputReport command) left rose answer
-long_decided command left after rose answer is passes = subst (λ (r : Report). IsDecided (InputReport command) left rose r) (sym is) (long_reported command left after passes)
+pub long_decided : (command : CommandWord) (left after : Option (List ℕ)) (rose : Type 0) (answer : Report) →
+    answer ≡ too_long → PassesExactly left after (input_limit + 1) → IsDecided (InputReport command) left rose answer
+long_decided command left after rose answer is passes =
+    subst (λ (r : Report). IsDecided (InputReport command) left rose r) (sym is)
+    (long_reported command left after passes)
 
 -- no command answers an input within the limit with the status of a longer one, or of a fault that no input decides
 NotOfText : Status → Type 0
@@ -63,7 +69,9 @@ not_no_memory Graph input text is = is.2
 not_no_memory Gkm input text is = is.2
 
 -- what is answered to an input within the limit is decided
-text_decided : (s : Status) (command : CommandWord) (left : Option (List ℕ)) (rose : Type 0) (input text : List ℕ) → Holds left input → length input ≤ input_limit → TextReport command input s text → DecidedBy s (InputReport command) left rose (record { status = s; text = text })
+text_decided : (s : Status) (command : CommandWord) (left : Option (List ℕ)) (rose : Type 0) (input text : List ℕ) →
+    Holds left input → length input ≤ input_limit → TextReport command input s text →
+    DecidedBy s (InputReport command) left rose (record { status = s; text = text })
 unfolding InputReport NotOfText
 text_decided Done command left rose input text held fits is = (input, held, (fits, is))
 text_decided Refused command left rose input text held fits is = (input, held, (fits, is))
@@ -76,8 +84,11 @@ text_decided NoMemory command left rose input text held fits is = absurd (not_no
 text_decided TooLong command left rose input text held fits is = absurd (not_too_long command input text is)
 text_decided Usage command left rose input text held fits is = (input, held, (fits, is))
 
-pub report_decided : (command : CommandWord) (left : Option (List ℕ)) (rose : Type 0) (answer : Report) (input : List ℕ) → Holds left input → length input ≤ input_limit → TextReport command input answer.status answer.text → IsDecided (InputReport command) left rose answer
-report_decided command left rose answer input held fits is = text_decided answer.status command left rose input answer.text held fits is
+pub report_decided : (command : CommandWord) (left : Option (List ℕ)) (rose : Type 0) (answer : Report) (input : List ℕ)
+    → Holds left input → length input ≤ input_limit → TextReport command input answer.status answer.text →
+    IsDecided (InputReport command) left rose answer
+report_decided command left rose answer input held fits is =
+    text_decided answer.status command left rose input answer.text held fits is
 
 -- words that are no command
 abbrev usage : Report
@@ -85,11 +96,14 @@ usage = record { status = Usage; text = codes "usage\n" }
 
 usage_report : (words : List Text) (input : List ℕ) → asked words ≡ None → IsReport words input Usage (codes "usage\n")
 unfolding IsReport
-usage_report words input none = subst (λ (c : Option CommandWord). CommandReport c input Usage (codes "usage\n")) (sym none) (refl, refl)
+usage_report words input none =
+    subst (λ (c : Option CommandWord). CommandReport c input Usage (codes "usage\n")) (sym none) (refl, refl)
 
 usage_reported : (words : List Text) (left : Option (List ℕ)) → asked words ≡ None → Reports (IsReport words) left usage
 usage_reported words None none = ([], tt, usage_report words [] none)
 usage_reported words (Some left) none = (left, refl, usage_report words left none)
 
-pub usage_decided : (words : List Text) (left : Option (List ℕ)) (rose : Type 0) (answer : Report) → answer ≡ usage → asked words ≡ None → IsDecided (IsReport words) left rose answer
-usage_decided words left rose answer is none = subst (λ (r : Report). IsDecided (IsReport words) left rose r) (sym is) (usage_reported words left none)
+pub usage_decided : (words : List Text) (left : Option (List ℕ)) (rose : Type 0) (answer : Report) → answer ≡ usage →
+    asked words ≡ None → IsDecided (IsReport words) left rose answer
+usage_decided words left rose answer is none =
+    subst (λ (r : Report). IsDecided (IsReport words) left rose r) (sym is) (usage_reported words left none)

@@ -29,13 +29,16 @@ use Rattle.bmp_program.specs.declared.status.Status.TheVariants.{Done, Refused, 
 
 -- the text of a certificate is read as that certificate
 read_as : (c : Cert) (input : List ℕ) → IsCertOf c input → whole cert input ≡ Ok c
-read_as c input is = subst (λ (bytes : List ℕ). whole cert bytes ≡ Ok c) (sym is.1) (whole_again cert cert_text IsWellFormed cert_pair c is.0)
+read_as c input is =
+    subst (λ (bytes : List ℕ). whole cert bytes ≡ Ok c) (sym is.1)
+    (whole_again cert cert_text IsWellFormed cert_pair c is.0)
 
 -- ---- the cases of a certificate
 
 -- a job that breaks a rule: one of those of the graph, or the last
 JobCase : Job → Status → Type 0
-JobCase j s = ((s ≡ BadJob) × (KeepsAll graph_rules j → ⊥)) ⊎ ((s ≡ GkmFailed) × KeepsAll graph_rules j × (HasGkmGraph j → ⊥))
+JobCase j s = ((s ≡ BadJob) × (KeepsAll graph_rules j → ⊥)) ⊎
+    ((s ≡ GkmFailed) × KeepsAll graph_rules j × (HasGkmGraph j → ⊥))
 
 abbrev last_rule : List Rule
 last_rule = HasGkmGraph ∷ []
@@ -51,7 +54,8 @@ job_case j s (TooMany n) h is = inl (is, not_kept j graph_rules 5 h.fails)
 job_case j s (DegreeBound d) h is = inl (is, not_kept j graph_rules 6 h.fails)
 job_case j s (TooLarge n) h is = inl (is, not_kept j graph_rules 7 h.fails)
 job_case j s (ZeroLabel x y) h is = inl (is, not_kept j graph_rules 8 h.fails)
-job_case j s (Gkm p) h is = inr (is, keeps_before j graph_rules last_rule 0 h.fails, fails_there j graph_rules last_rule 0 h.fails)
+job_case j s (Gkm p) h is =
+    inr (is, keeps_before j graph_rules last_rule 0 h.fails, fails_there j graph_rules last_rule 0 h.fails)
 
 job_breaks : (j : Job) (s : Status) → JobCase j s → KeepsAll rules j → ⊥
 unfolding JobCase
@@ -70,13 +74,15 @@ abbrev CertPasses : Cert → Type 0
 CertPasses c = (G : Graph) × IsJobGraph c.job G × Passes G c.version (written_by c)
 
 abbrev CertFails : Cert → Type 0
-CertFails c = (G : Graph) × IsJobGraph c.job G × ((refusal : Refusal) × IsFirstRefusal G c.version (written_by c) refusal)
+CertFails c = (G : Graph) × IsJobGraph c.job G ×
+    ((refusal : Refusal) × IsFirstRefusal G c.version (written_by c) refusal)
 
 -- not both, since the graph of a job is one
 not_both : (c : Cert) → CertPasses c → CertFails c → ⊥
 not_both c (G, of_G, passes) (H, of_H, fails) =
     let same : G ≡ H = one_graph c.job G H of_G of_H in
-    none_fails H c.version (written_by c) fails.0 (subst (λ (K : Graph). Passes K c.version (written_by c)) same passes) fails.1
+    none_fails H c.version (written_by c) fails.0 (subst (λ (K : Graph). Passes K c.version (written_by c)) same passes)
+    fails.1
 
 CertCase : Cert → Status → Type 0
 CertCase c s = JobCase c.job s
@@ -114,7 +120,8 @@ CertTextCase : List ℕ → Status → Type 0
 CertTextCase input s = ((s ≡ BadText) × ((f : TextFault) × (whole cert input ≡ Err f)))
     ⊎ ((c : Cert) × (whole cert input ≡ Ok c) × CertCase c s)
 
-at_cert : (input : List ℕ) (s : Status) (text : List ℕ) → ((c : Cert) × IsCertOf c input × CertReport c s text) → CertTextCase input s
+at_cert : (input : List ℕ) (s : Status) (text : List ℕ) → ((c : Cert) × IsCertOf c input × CertReport c s text) →
+    CertTextCase input s
 unfolding CertTextCase
 at_cert input s text found = inr (found.0, read_as found.0 input found.1, cert_case found.0 s text found.2)
 
@@ -131,7 +138,8 @@ cert_text_case input WriteFault text is = at_cert input WriteFault text is
 cert_text_case input NoMemory text is = at_cert input NoMemory text is
 cert_text_case input Usage text is = at_cert input Usage text is
 
-same_cert : (input : List ℕ) (c d : Cert) (s t : Status) → whole cert input ≡ Ok c → whole cert input ≡ Ok d → CertCase c s → CertCase d t → s ≡ t
+same_cert : (input : List ℕ) (c d : Cert) (s t : Status) → whole cert input ≡ Ok c → whole cert input ≡ Ok d →
+    CertCase c s → CertCase d t → s ≡ t
 same_cert input c d s t of_c of_d p q =
     let same : d ≡ c = cc in
     one_cert_case c s t p (subst (λ (e : Cert). CertCase e t) same q)
@@ -147,7 +155,9 @@ one_cert_text_case input s t (inr a) (inr b) = same_cert input a.0 b.0 s t a.1 b
 
 -- the text of a job is read as that job
 read_as_job : (j : Job) (input : List ℕ) → IsJobOf j input → whole job input ≡ Ok j
-read_as_job j input is = subst (λ (bytes : List ℕ). whole job bytes ≡ Ok j) (sym is.1) (whole_again job job_text IsWellFormedJob job_pair j is.0)
+read_as_job j input is =
+    subst (λ (bytes : List ℕ). whole job bytes ≡ Ok j) (sym is.1)
+    (whole_again job job_text IsWellFormedJob job_pair j is.0)
 
 -- the rules that are tried either all hold, or the first that fails decides
 Decides : (Job → Type 0) → Job → Status → Type 0
@@ -182,7 +192,8 @@ gkm_case : (j : Job) (s : Status) (text : List ℕ) → GkmReport j s text → D
 unfolding Decides
 gkm_case j Done text is = inl (refl, is.0)
 gkm_case j BadJob text is = let broken = job_case j BadJob is.0 is.1 is.2 in inr (broken, job_breaks j BadJob broken)
-gkm_case j GkmFailed text is = let broken = job_case j GkmFailed is.0 is.1 is.2 in inr (broken, job_breaks j GkmFailed broken)
+gkm_case j GkmFailed text is = let broken = job_case j GkmFailed is.0 is.1 is.2 in
+    inr (broken, job_breaks j GkmFailed broken)
 gkm_case j BadText text is = absurd is
 gkm_case j Refused text is = absurd is
 gkm_case j ReadFault text is = absurd is
@@ -195,7 +206,8 @@ JobTextCase : (Job → Type 0) → List ℕ → Status → Type 0
 JobTextCase Kept input s = ((s ≡ BadText) × ((f : TextFault) × (whole job input ≡ Err f)))
     ⊎ ((j : Job) × (whole job input ≡ Ok j) × Decides Kept j s)
 
-module _ (report : Job → Status → List ℕ → Type 0) (Kept : Job → Type 0) (of : (j : Job) (s : Status) (text : List ℕ) → report j s text → Decides Kept j s) (input text : List ℕ) where
+module _ (report : Job → Status → List ℕ → Type 0) (Kept : Job → Type 0) (of : (j : Job) (s : Status) (text : List ℕ) →
+    report j s text → Decides Kept j s) (input text : List ℕ) where
   at_job : (s : Status) → ((j : Job) × IsJobOf j input × report j s text) → JobTextCase Kept input s
   unfolding JobTextCase
   at_job s found = inr (found.0, read_as_job found.0 input found.1, of found.0 s text found.2)
@@ -213,12 +225,14 @@ module _ (report : Job → Status → List ℕ → Type 0) (Kept : Job → Type 
   job_text_case NoMemory is = at_job NoMemory is
   job_text_case Usage is = at_job Usage is
 
-same_job : (Kept : Job → Type 0) (input : List ℕ) (i j : Job) (s t : Status) → whole job input ≡ Ok i → whole job input ≡ Ok j → Decides Kept i s → Decides Kept j t → s ≡ t
+same_job : (Kept : Job → Type 0) (input : List ℕ) (i j : Job) (s t : Status) → whole job input ≡ Ok i →
+    whole job input ≡ Ok j → Decides Kept i s → Decides Kept j t → s ≡ t
 same_job Kept input i j s t of_i of_j p q =
     let same : j ≡ i = cc in
     one_decided Kept i s t p (subst (λ (k : Job). Decides Kept k t) same q)
 
-one_job_text_case : (Kept : Job → Type 0) (input : List ℕ) (s t : Status) → JobTextCase Kept input s → JobTextCase Kept input t → s ≡ t
+one_job_text_case : (Kept : Job → Type 0) (input : List ℕ) (s t : Status) → JobTextCase Kept input s →
+    JobTextCase Kept input t → s ≡ t
 unfolding JobTextCase
 one_job_text_case Kept input s t (inl a) (inl b) = a.0 ∙ sym b.0
 one_job_text_case Kept input s t (inl a) (inr b) = let p = a.1.1 in let q = b.1 in cc
@@ -227,18 +241,24 @@ one_job_text_case Kept input s t (inr a) (inr b) = same_job Kept input a.0 b.0 s
 
 -- ---- the cases of an input
 
-one_text : (command : CommandWord) (input : List ℕ) (s t : Status) (a b : List ℕ) → TextReport command input s a → TextReport command input t b → s ≡ t
-one_text Check input s t a b p q = one_cert_text_case input s t (cert_text_case input s a p) (cert_text_case input t b q)
+one_text : (command : CommandWord) (input : List ℕ) (s t : Status) (a b : List ℕ) → TextReport command input s a →
+    TextReport command input t b → s ≡ t
+one_text Check input s t a b p q =
+    one_cert_text_case input s t (cert_text_case input s a p) (cert_text_case input t b q)
 one_text GraphCommand input s t a b p q =
-    one_job_text_case (KeepsAll graph_rules) input s t (job_text_case GraphReport (KeepsAll graph_rules) graph_case input a s p) (job_text_case GraphReport (KeepsAll graph_rules) graph_case input b t q)
+    one_job_text_case (KeepsAll graph_rules) input s t
+    (job_text_case GraphReport (KeepsAll graph_rules) graph_case input a s p)
+    (job_text_case GraphReport (KeepsAll graph_rules) graph_case input b t q)
 one_text GkmCommand input s t a b p q =
-    one_job_text_case (KeepsAll rules) input s t (job_text_case GkmReport (KeepsAll rules) gkm_case input a s p) (job_text_case GkmReport (KeepsAll rules) gkm_case input b t q)
+    one_job_text_case (KeepsAll rules) input s t (job_text_case GkmReport (KeepsAll rules) gkm_case input a s p)
+    (job_text_case GkmReport (KeepsAll rules) gkm_case input b t q)
 
 InputCase : CommandWord → List ℕ → Status → List ℕ → Type 0
 InputCase command input s text = ((s ≡ TooLong) × (input_limit < length input))
     ⊎ ((length input ≤ input_limit) × TextReport command input s text)
 
-input_case : (command : CommandWord) (input : List ℕ) (s : Status) (text : List ℕ) → InputReport command input s text → InputCase command input s text
+input_case : (command : CommandWord) (input : List ℕ) (s : Status) (text : List ℕ) → InputReport command input s text →
+    InputCase command input s text
 unfolding InputReport InputCase
 input_case command input TooLong text is = inl (refl, is.0)
 input_case command input BadText text is = inr is
@@ -251,16 +271,19 @@ input_case command input WriteFault text is = inr is
 input_case command input NoMemory text is = inr is
 input_case command input Usage text is = inr is
 
-one_input_case : (command : CommandWord) (input : List ℕ) (s t : Status) (a b : List ℕ) → InputCase command input s a → InputCase command input t b → s ≡ t
+one_input_case : (command : CommandWord) (input : List ℕ) (s t : Status) (a b : List ℕ) → InputCase command input s a →
+    InputCase command input t b → s ≡ t
 unfolding InputCase
 one_input_case command input s t a b (inl p) (inl q) = p.0 ∙ sym q.0
 one_input_case command input s t a b (inl p) (inr q) = absurd (omega (arith, p.1, q.0))
 one_input_case command input s t a b (inr p) (inl q) = absurd (omega (arith, q.1, p.0))
 one_input_case command input s t a b (inr p) (inr q) = one_text command input s t a b p.1 q.1
 
-by_command : (command : Option CommandWord) (input : List ℕ) (s t : Status) (a b : List ℕ) → CommandReport command input s a → CommandReport command input t b → s ≡ t
+by_command : (command : Option CommandWord) (input : List ℕ) (s t : Status) (a b : List ℕ) →
+    CommandReport command input s a → CommandReport command input t b → s ≡ t
 by_command None input s t a b p q = p.0 ∙ sym q.0
-by_command (Some command) input s t a b p q = one_input_case command input s t a b (input_case command input s a p) (input_case command input t b q)
+by_command (Some command) input s t a b p q =
+    one_input_case command input s t a b (input_case command input s a p) (input_case command input t b q)
 
 pub one_status : HasOneStatus
 unfolding IsReport

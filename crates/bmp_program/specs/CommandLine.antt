@@ -51,7 +51,8 @@ found_in words = matches_of line_app words
 abbrev pub named : Text → Option CommandWord
 named text =
     if bytes_eq text (codes "check") then Some Check
-    else (if bytes_eq text (codes "graph") then Some Graph else (if bytes_eq text (codes "gkm") then Some Gkm else None))
+    else (if bytes_eq text (codes "graph") then Some Graph
+    else (if bytes_eq text (codes "gkm") then Some Gkm else None))
 
 abbrev pub takes_seed : CommandWord → Bool
 takes_seed Check = false

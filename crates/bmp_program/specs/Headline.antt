@@ -1,8 +1,9 @@
 -- What status 0 of `check` says of the input and of the lines written.
---   Certifies c G input      c is the certificate that the input is the text of, and the only one, of version 1, 2 or 3; its job keeps
---                            all rules, and G is the moment graph of the job; the sheaf that c writes down on G is a
---                            Braden-MacPherson sheaf in every degree up to that of the job; each of its generators has such a
---                            degree; and its numbers of generators are dimensions, at each vertex and in each of these degrees
+--   Certifies c G input      c is the certificate that the input is the text of, and the only one, of version 1, 2 or
+--                            3; its job keeps all rules, and G is the moment graph of the job; the sheaf that c writes
+--                            down on G is a Braden-MacPherson sheaf in every degree up to that of the job; each of its
+--                            generators has such a degree; and its numbers of generators are dimensions, at each vertex
+--                            and in each of these degrees
 --   IsCertified left before after
 --                            where the source tells its bytes, they are such a certificate, and the sink took the lines
 --                            of its numbers of generators

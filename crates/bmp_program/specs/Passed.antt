@@ -1,6 +1,6 @@
 -- That no comparison of the check of an input fails.
---   HasPassed left   where the source tells its bytes, they are the text of a certificate, and on the graph of its job no
---                    comparison of the certificate fails
+--   HasPassed left   where the source tells its bytes, they are the text of a certificate, and on the graph of its job
+--                    no comparison of the certificate fails
 use Rattle.std.specs.Prelude.{ℕ, List, Option, IfSome}
 use Rattle.bmp_graph.specs.Graph.{Graph}
 use Rattle.bmp_cert.specs.declared.cert.Cert.{Cert}
@@ -11,4 +11,5 @@ use Rattle.bmp_program.specs.Reports.{IsCertOf}
 
 abbrev pub HasPassed : Option (List ℕ) → Type 0
 HasPassed left =
-    IfSome left (λ input. (c : Cert) × ((G : Graph) × IsCertOf c input × IsJobGraph c.job G × Passes G c.version (written_by c)))
+    IfSome left (λ input. (c : Cert) ×
+    ((G : Graph) × IsCertOf c input × IsJobGraph c.job G × Passes G c.version (written_by c)))

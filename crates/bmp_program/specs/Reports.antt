@@ -7,7 +7,8 @@
 --                               c, or j, is well formed, and the input is its text
 --   fault_status fault          the status of a job's fault: a graph without the GKM condition has one of its own
 --   JobReport j status text     what is answered to a job that breaks a rule
---   CertReport c status text    what the check of a certificate answers: that its job breaks a rule, that a comparison fails, or its ranks
+--   CertReport c status text    what the check of a certificate answers: that its job breaks a rule, that a comparison
+--                               fails, or its ranks
 --   GraphReport, GkmReport      what `graph` and `gkm` answer to a job
 --   CertTextReport, JobTextReport, TextReport
 --                               what a command answers to an input within the limit
@@ -68,24 +69,31 @@ abbrev pub JobReport : Job → Status → List ℕ → Type 0
 JobReport j status text = (fault : JobFault) × IsFirstFault j fault × (status ≡ fault_status fault)
     × (text ≡ job_fault_line j.rank fault)
 
--- in order: the certificate's job breaks a rule, with the first; a comparison on the job's graph fails, with the first; none fails
+-- in order: the certificate's job breaks a rule, with the first; a comparison on the job's graph fails, with the first;
+-- none fails
 abbrev pub CertReport : Cert → Status → List ℕ → Type 0
 CertReport c BadJob text = JobReport c.job BadJob text
 CertReport c GkmFailed text = JobReport c.job GkmFailed text
 CertReport c Refused text =
-    KeepsAll rules c.job × ((G : Graph) × IsJobGraph c.job G × ((refusal : Refusal) × IsFirstRefusal G c.version (written_by c) refusal × (text ≡ refusal_text refusal)))
-CertReport c Done text = KeepsAll rules c.job × ((G : Graph) × IsJobGraph c.job G × Passes G c.version (written_by c) × (text ≡ cert_rank_lines c))
+    KeepsAll rules c.job ×
+    ((G : Graph) × IsJobGraph c.job G ×
+    ((refusal : Refusal) × IsFirstRefusal G c.version (written_by c) refusal × (text ≡ refusal_text refusal)))
+CertReport c Done text =
+    KeepsAll rules c.job ×
+    ((G : Graph) × IsJobGraph c.job G × Passes G c.version (written_by c) × (text ≡ cert_rank_lines c))
 CertReport c _ text = ⊥
 
 -- the text of no certificate, with the first fault in reading order, or the text of one
 abbrev pub CertTextReport : List ℕ → Status → List ℕ → Type 0
-CertTextReport input BadText text = (fault : TextFault) × (whole cert input ≡ Err fault) × (text ≡ text_fault_line fault)
+CertTextReport input BadText text = (fault : TextFault) × (whole cert input ≡ Err fault) ×
+    (text ≡ text_fault_line fault)
 CertTextReport input status text = (c : Cert) × IsCertOf c input × CertReport c status text
 
 -- the rules of the graph alone decide on it
 abbrev pub GraphReport : Job → Status → List ℕ → Type 0
 GraphReport j BadJob text = JobReport j BadJob text
-GraphReport j Done text = KeepsAll graph_rules j × ((g : Graph) × (of : IsJobGraph j g) × (text ≡ graph_text of.roots of.vertices g))
+GraphReport j Done text =
+    KeepsAll graph_rules j × ((g : Graph) × (of : IsJobGraph j g) × (text ≡ graph_text of.roots of.vertices g))
 GraphReport j _ text = ⊥
 
 abbrev pub GkmReport : Job → Status → List ℕ → Type 0
@@ -96,7 +104,8 @@ GkmReport j _ text = ⊥
 
 -- the text of no job, with the first fault in reading order, or the text of one
 abbrev pub JobTextReport : (Job → Status → List ℕ → Type 0) → List ℕ → Status → List ℕ → Type 0
-JobTextReport report input BadText text = (fault : TextFault) × (whole job input ≡ Err fault) × (text ≡ text_fault_line fault)
+JobTextReport report input BadText text = (fault : TextFault) × (whole job input ≡ Err fault) ×
+    (text ≡ text_fault_line fault)
 JobTextReport report input status text = (j : Job) × IsJobOf j input × report j status text
 
 abbrev pub TextReport : CommandWord → List ℕ → Status → List ℕ → Type 0
@@ -116,4 +125,5 @@ unfoldable pub IsReport : List Text → List ℕ → Status → List ℕ → Typ
 IsReport words input status text = CommandReport (asked words) input status text
 
 abbrev pub HasOneStatus : Type 0
-HasOneStatus = (words : List Text) (input : List ℕ) (s t : Status) (a b : List ℕ) → IsReport words input s a → IsReport words input t b → s ≡ t
+HasOneStatus = (words : List Text) (input : List ℕ) (s t : Status) (a b : List ℕ) → IsReport words input s a →
+    IsReport words input t b → s ≡ t

@@ -72,11 +72,13 @@ pub fn run<S: Source, K: Sink>(
     ensures end { result ≡ Status.Done → IsAtEnd (S.left source.new) }
 
     // When `check` ends with status 0, no comparison of the certificate fails.
-    ensures passed { asked (map string_bytes words.now) ≡ Some Check → result ≡ Status.Done → HasPassed (S.left source.old) }
+    ensures passed { asked (map string_bytes words.now) ≡ Some Check → result ≡ Status.Done →
+        HasPassed (S.left source.old) }
 
-    // When `check` ends with status 0, the bytes it read are exactly one certificate text, its job is accepted, and the sheaf in
-    // the text is, in every degree up to D, a Braden-MacPherson sheaf of the job's Bruhat moment graph; the lines written are its
-    // generator counts, each the dimension of the boundary module modulo positive-degree multiples.
+    // When `check` ends with status 0, the bytes it read are exactly one certificate text, its job is accepted, and the
+    // sheaf in the text is, in every degree up to D, a Braden-MacPherson sheaf of the job's Bruhat moment graph; the
+    // lines written are its generator counts, each the dimension of the boundary module modulo positive-degree
+    // multiples.
     ensures certified { asked (map string_bytes words.now) ≡ Some Check → result ≡ Status.Done →
         IsCertified (S.left source.old) (K.taken sink.old) (K.taken sink.new) }
 {

@@ -191,9 +191,9 @@ fn one_line_altered(rt: HostRuntime) -> Result<(), Fail> {
     Ok(())
 }
 
-/// The generator of the point is one of degree 1, the edge of the line is taken out, the tuple of the square is taken out, two blocks of the square are wrong, of
-/// which that of the greater vertex is told, and a second generator of the line has no dual form, since its boundary
-/// is zero.
+/// The generator of the point is one of degree 1, the edge of the line is taken out, the tuple of the square is taken
+/// out, two blocks of the square are wrong, of which that of the greater vertex is told, and a second generator of the
+/// line has no dual form, since its boundary is zero.
 #[test]
 fn several_lines_altered(rt: HostRuntime) -> Result<(), Fail> {
     let alloc = rt.alloc();

@@ -1,5 +1,5 @@
-//! One certificate of each version: there and back; and with a line cut out, doubled, exchanged with the next one, or put
-//! behind the end, its first fault.
+//! One certificate of each version: there and back; and with a line cut out, doubled, exchanged with the next one, or
+//! put behind the end, its first fault.
 ghost use Rattle.std.specs.Prelude.{◌≤◌, ◌<◌, IfOk};
 
 use bmp_cert::{
@@ -172,8 +172,8 @@ use Change::{Appended, Cut, Doubled, Exchanged};
 /// What is done with a line, its number from 1, and the first fault that then comes.
 type Fault = (Change, u64, Option<(u64, TextKind)>);
 
-// The faults that the rule in `fault_of` doesn't give, from a reader of the formats in another language. Exchanged lines
-// may be equal, or both be rows of the matrix.
+// The faults that the rule in `fault_of` doesn't give, from a reader of the formats in another language. Exchanged
+// lines may be equal, or both be rows of the matrix.
 const SQUARE_FAULTS: [Fault; 14] = [
     (Cut, 3, Some((4, WrongKeyword))),
     (Cut, 9, Some((9, OutOfRange))),

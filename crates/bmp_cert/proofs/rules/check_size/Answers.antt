@@ -15,7 +15,8 @@ returns-then-j-gt-MAX_DEGREE-clause-fault c = record {
 pub returns-then-size-gt-MAX_SIZE-clause-fault : goal.returns-then-size-gt-MAX_SIZE-clause-fault
 returns-then-size-gt-MAX_SIZE-clause-fault c =
     let size : HasSize c.args.j.now (c.len.result * c.count.result) =
-    size_is c.args.j.now (system_of c.args.interval.now) (vertices_of c.args.interval.now) c.len.result c.from.result c.count.result
+    size_is c.args.j.now (system_of c.args.interval.now) (vertices_of c.args.interval.now) c.len.result c.from.result
+    c.count.result
     c.requires.system c.requires.interval c.len.ensures.value c.from.ensures c.count.ensures.number in
     record {
       fails = fails_behind c.args.j.now interval_rules (HasDegree ∷ IsSmall ∷ []) 1 c.requires.before
@@ -25,7 +26,8 @@ returns-then-size-gt-MAX_SIZE-clause-fault c =
 
 pub returns-then-size-gt-MAX_SIZE-clause-only : goal.returns-then-size-gt-MAX_SIZE-clause-only
 returns-then-size-gt-MAX_SIZE-clause-only c = λ kept.
-    let fault : IsFirstFault c.args.j.now (TooLarge (c.len.result * c.count.result)) = returns-then-size-gt-MAX_SIZE-clause-fault c in
+    let fault : IsFirstFault c.args.j.now (TooLarge (c.len.result * c.count.result)) =
+    returns-then-size-gt-MAX_SIZE-clause-fault c in
     absurd (not_kept c.args.j.now size_rules 7 fault.fails kept)
 
 pub returns-clause-kept : goal.returns-clause-kept
@@ -34,7 +36,8 @@ returns-clause-kept c = keeps_both c.args.j.now interval_rules (HasDegree ∷ Is
   (
     (
       c.len.result * c.count.result,
-      size_is c.args.j.now (system_of c.args.interval.now) (vertices_of c.args.interval.now) c.len.result c.from.result c.count.result
+      size_is c.args.j.now (system_of c.args.interval.now) (vertices_of c.args.interval.now) c.len.result c.from.result
+          c.count.result
           c.requires.system c.requires.interval c.len.ensures.value c.from.ensures c.count.ensures.number,
       omega arith,
     ),

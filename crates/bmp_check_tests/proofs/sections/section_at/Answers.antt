@@ -21,28 +21,35 @@ block-sizes-requires-clause-top c = top_of c.graph.ensures c.requires.whole.chec
 
 pub fill-requires-clause-there : goal.fill-requires-clause-there
 fill-requires-clause-there c =
-    let at = read_at c.requires.method c.sheaf-sheaf.ensures (at_block c.requires.whole c.args.x c.args.d c.requires.block) in
+    let at = read_at c.requires.method c.sheaf-sheaf.ensures
+    (at_block c.requires.whole c.args.x c.args.d c.requires.block) in
     (has_stalks at).above
 
 pub fill-requires-clause-room : goal.fill-requires-clause-room
 fill-requires-clause-room c =
-    let at = read_at c.requires.method c.sheaf-sheaf.ensures (at_block c.requires.whole c.args.x c.args.d c.requires.block) in
+    let at = read_at c.requires.method c.sheaf-sheaf.ensures
+    (at_block c.requires.whole c.args.x c.args.d c.requires.block) in
     has_room at c.in_ok-scratch.scratch
-    (subst (λ (m : Method). IsRoomFor (graph_in c.args.s.now) m (cert_in c.args.s.now) c.in_ok-scratch.scratch) c.requires.method c.in_ok-scratch.ensures)
+    (subst (λ (m : Method). IsRoomFor (graph_in c.args.s.now) m (cert_in c.args.s.now) c.in_ok-scratch.scratch)
+    c.requires.method c.in_ok-scratch.ensures)
 
 pub compatible-requires-clause-fits : goal.compatible-requires-clause-fits
 compatible-requires-clause-fits c =
-    let at = read_at c.requires.method c.sheaf-sheaf.ensures (at_block c.requires.whole c.args.x c.args.d c.requires.block) in
+    let at = read_at c.requires.method c.sheaf-sheaf.ensures
+    (at_block c.requires.whole c.args.x c.args.d c.requires.block) in
     let s = c.sheaf-sheaf.result.now in
     let holds : FitsBelow c.in_ok-tuple.tuple c.in_ok-try_from.field-0 = c.fits.ensures.0 c.if-not-fits.false in
     let same : c.block-sizes.result.columns ≡ position_count s.graph (sheaf_of s) (is_above s.graph c.args.x) c.args.d =
     positions_are at c.block-sizes.result
-    (sizes_read (graph_in c.args.s.now) c.graph.result.now c.args.s.now.given c.given.result.now c.graph.ensures c.given.ensures c.requires.method
+    (sizes_read (graph_in c.args.s.now) c.graph.result.now c.args.s.now.given c.given.result.now c.graph.ensures
+    c.given.ensures c.requires.method
     c.args.x c.args.d c.block-sizes.result c.block-sizes.ensures) in
     λ k e below. let within = holds k e below in omega (arith, within, same, c.in_ok-try_from.ensures)
 
 pub compatible-requires-clause-room : goal.compatible-requires-clause-room
 compatible-requires-clause-room c =
-    let at = read_at c.requires.method c.sheaf-sheaf.ensures (at_block c.requires.whole c.args.x c.args.d c.requires.block) in
+    let at = read_at c.requires.method c.sheaf-sheaf.ensures
+    (at_block c.requires.whole c.args.x c.args.d c.requires.block) in
     positions_within at _
-    (subst (λ (m : Method). HasWidth (graph_in c.args.s.now) m (cert_in c.args.s.now) _) c.requires.method c.in_ok-scratch.ensures.width)
+    (subst (λ (m : Method). HasWidth (graph_in c.args.s.now) m (cert_in c.args.s.now) _) c.requires.method
+    c.in_ok-scratch.ensures.width)

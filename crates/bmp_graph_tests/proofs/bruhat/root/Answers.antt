@@ -12,11 +12,14 @@ root_of-requires c =
     let list = vertices_of c.args.interval.now in
     let found = c.requires.graph.each c.args.e c.requires.edge in (
       found.0,
-      subst (λ y. IsEdge (matrix_of roots) (positive_roots_of roots) list c.edge.result.now.lower y found.0) (sym c.edge.ensures.upper)
-          (subst (λ x. IsEdge (matrix_of roots) (positive_roots_of roots) list x (upper c.args.graph.now c.args.e) found.0) (sym c.edge.ensures.lower) found.1),
+      subst (λ y. IsEdge (matrix_of roots) (positive_roots_of roots) list c.edge.result.now.lower y found.0)
+          (sym c.edge.ensures.upper)
+          (subst (λ x. IsEdge (matrix_of roots) (positive_roots_of roots) list x (upper c.args.graph.now c.args.e)
+          found.0) (sym c.edge.ensures.lower) found.1),
     )
 
 pub pair-requires : goal.pair-requires
 pair-requires c =
     subst (λ roots. c.root_of.result < length (positives roots)) (sym c.roots.ensures)
-    (slice_get_within (positives (system_of c.args.interval.now)) c.root_of.result c.root_of.ensures.pair c.root_of.ensures.pair_is)
+    (slice_get_within (positives (system_of c.args.interval.now)) c.root_of.result c.root_of.ensures.pair
+    c.root_of.ensures.pair_is)

@@ -18,4 +18,5 @@ pub returns-in_ok-line-in-Err-Refused : goal.returns-in_ok-line-in-Err-Refused
 returns-in_ok-line-in-Err-Refused g c =
     refused_report (graph_of (prepared_of c.args.accepted.now)) c.args.cert.now c.requires.accepted
     c.in_ok-line-in-Err-Refused.line.items (answer_view c.made-in-Err-Refused.result) c.in-Err-Refused.field-0
-    c.in-Err-Refused.refusal c.in-Err-Refused.field-0-is c.in-Err-Refused.ensures.refused c.in_ok-line-in-Err-Refused.ensures c.made-in-Err-Refused.ensures
+    c.in-Err-Refused.refusal c.in-Err-Refused.field-0-is c.in-Err-Refused.ensures.refused
+    c.in_ok-line-in-Err-Refused.ensures c.made-in-Err-Refused.ensures

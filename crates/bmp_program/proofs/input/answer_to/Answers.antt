@@ -10,7 +10,8 @@ returns-in-Ok-report_on-clause-answer g c =
     let a = answer_view c.in-Ok-report_on.answer in
     report_decided c.args.request.command (g.S.Source.left c.args.source.now)
     (Rose (g.S.Source.faults c.args.source.now) (g.S.Source.faults c.read_all.new.source)) a c.in-Ok.input.items
-    (whole_held (g.S.Source.left c.args.source.now) (g.S.Source.left c.read_all.new.source) c.in-Ok.input.items c.in-Ok.ensures.all c.in-Ok.ensures.end)
+    (whole_held (g.S.Source.left c.args.source.now) (g.S.Source.left c.read_all.new.source) c.in-Ok.input.items
+    c.in-Ok.ensures.all c.in-Ok.ensures.end)
     c.in-Ok.ensures.within
     (subst (λ i. TextReport c.args.request.command i a.status a.text) c.deref.ensures.value c.in-Ok-report_on.ensures)
 

@@ -5,7 +5,8 @@ use Rattle.bmp_program.proofs.job_answer.gkm_answer.Goals as goal
 
 pub returns-in_ok-text-in-Ok : goal.returns-in_ok-text-in-Ok
 returns-in_ok-text-in-Ok c =
-    gkm_done c.args.j.now (graph_of (prepared_of c.in-Ok.accepted)) c.in_ok-text-in-Ok.text.items (answer_view c.made.result)
+    gkm_done c.args.j.now (graph_of (prepared_of c.in-Ok.accepted)) c.in_ok-text-in-Ok.text.items
+    (answer_view c.made.result)
     c.in-Ok.ensures.kept c.in-Ok.ensures.graph c.in_ok-text-in-Ok.ensures c.made.ensures
 
 pub returns-in_ok-answer-in-Err-Fault : goal.returns-in_ok-answer-in-Err-Fault
