@@ -36,8 +36,8 @@ returns-clause-kept c = keeps_both c.args.j.now interval_rules (HasDegree ∷ Is
   (
     (
       c.len.result * c.count.result,
-      size_is c.args.j.now (system_of c.args.interval.now) (vertices_of c.args.interval.now) c.len.result c.from.result
-          c.count.result
+      size_is c.args.j.now (system_of c.args.interval.now) (vertices_of c.args.interval.now) c.len.result
+          c.from.result c.count.result
           c.requires.system c.requires.interval c.len.ensures.value c.from.ensures c.count.ensures.number,
       omega arith,
     ),
