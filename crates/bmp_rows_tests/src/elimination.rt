@@ -3,12 +3,8 @@ ghost use Rattle.std.specs.Prelude.{◌≡◌, ◌<◌, IfOk};
 ghost use Rattle.bmp_math.specs.Matrices.{Matrix, NumbersBelow};
 ghost use Rattle.bmp_field.specs.PrimeFields.{size_of};
 
-use crate::growing::judge_growing;
 use crate::plain::{Plain, multiplies, rank};
-use bmp_elim::{
-    Solution, echelon, eliminate_rows, extend_basis, extend_columns, kernel, reduce, solve,
-    solve_by,
-};
+use bmp_elim::{Solution, echelon, extend_basis, extend_columns, kernel, reduce, solve};
 use bmp_field::{Field, PrimeField};
 use bmp_linear::{
     DenseRows, KernelEvidence, Places, RowSpace, Rows, Scratch, SparseRows, Vector, Vectors,
@@ -18,10 +14,10 @@ use std::alloc::{AllocError, Global};
 use std::test::Fail;
 
 /// What a judge answers where all is as it should be. Otherwise it names what isn't.
-pub(crate) const RIGHT: &str = "right";
+const RIGHT: &str = "right";
 
 /// The first claim that doesn't hold.
-pub(crate) fn judged(claims: &[(bool, &'static str)]) -> &'static str {
+fn judged(claims: &[(bool, &'static str)]) -> &'static str {
     for (holds, name) in claims {
         if !*holds {
             return *name;
@@ -31,12 +27,12 @@ pub(crate) fn judged(claims: &[(bool, &'static str)]) -> &'static str {
 }
 
 /// The first of two judgements that isn't right.
-pub(crate) fn worse(first: &'static str, second: &'static str) -> &'static str {
+fn worse(first: &'static str, second: &'static str) -> &'static str {
     if first == RIGHT { second } else { first }
 }
 
 /// The matrix as rows that are kept as those of `like` are.
-pub(crate) fn rows_of<A: RowSpace<PrimeField>>(
+fn rows_of<A: RowSpace<PrimeField>>(
     alloc: Global,
     f: &PrimeField,
     like: &A,
@@ -55,11 +51,7 @@ pub(crate) fn rows_of<A: RowSpace<PrimeField>>(
 }
 
 /// The rows as a plain matrix.
-pub(crate) fn plain_of<A: Rows<PrimeField>>(
-    alloc: Global,
-    f: &PrimeField,
-    a: &A,
-) -> Result<Plain, AllocError>
+fn plain_of<A: Rows<PrimeField>>(alloc: Global, f: &PrimeField, a: &A) -> Result<Plain, AllocError>
     requires { NumbersBelow (size_of f.now) (A.matrix a.now) }
 {
     let mut numbers = Vec::new(alloc);
@@ -72,18 +64,14 @@ pub(crate) fn plain_of<A: Rows<PrimeField>>(
 }
 
 /// The vector as the row of a plain matrix.
-pub(crate) fn plain_vector(alloc: Global, cols: u32, vector: &Vector) -> Result<Plain, AllocError> {
+fn plain_vector(alloc: Global, cols: u32, vector: &Vector) -> Result<Plain, AllocError> {
     let mut plain = Plain::of(alloc, 0, cols, &[])?;
     plain.push_vector(vector)?;
     Ok(plain)
 }
 
 /// The vectors as the rows of a plain matrix.
-pub(crate) fn plain_vectors(
-    alloc: Global,
-    cols: u32,
-    vectors: &Vectors,
-) -> Result<Plain, AllocError> {
+fn plain_vectors(alloc: Global, cols: u32, vectors: &Vectors) -> Result<Plain, AllocError> {
     let mut plain = Plain::of(alloc, 0, cols, &[])?;
     for vector in vectors.as_slice() {
         plain.push_vector(vector)?;
@@ -154,7 +142,7 @@ fn judge_echelon<A: RowSpace<PrimeField>>(
 }
 
 /// Whether `check_kernel` accepts the evidence.
-pub(crate) fn is_accepted<A: Rows<PrimeField>>(
+fn is_accepted<A: Rows<PrimeField>>(
     alloc: Global,
     f: &PrimeField,
     a: &A,
@@ -335,50 +323,7 @@ fn judge_columns<A: RowSpace<PrimeField>>(
             "forms on the first columns",
         ),
         (multiplies(p, &sums, &kept.turned(alloc)?, &rest), "sums"),
-        (
-            is_accepted(
-                alloc,
-                f,
-                &rows_of(alloc, f, like, &kept.turned(alloc)?)?,
-                &extension.kernel,
-            )?,
-            "evidence of the kept columns",
-        ),
     ]))
-}
-
-/// Each right side is answered by the one elimination: the columns of the second half, and then one number 1.
-fn judge_right_sides<A: RowSpace<PrimeField>>(
-    alloc: Global,
-    f: &PrimeField,
-    p: u8,
-    like: &A,
-    whole: &Plain,
-) -> Result<&'static str, AllocError> {
-    let columns = whole.turned(alloc)?;
-    let half = columns.rows / 2;
-    let left = columns.part(alloc, 0, half)?;
-    let mut right_sides = columns.part(alloc, half, columns.rows)?;
-    for place in 0..whole.rows {
-        right_sides.push_vector(&Vector::unit(alloc, place)?)?;
-    }
-    let eliminated = eliminate_rows(alloc, f, rows_of(alloc, f, like, &left.turned(alloc)?)?)?;
-    let mut found = RIGHT;
-    for i in 0..right_sides.rows {
-        let right = right_sides.part(alloc, i, i.wrapping_add(1))?;
-        let mut both = left.part(alloc, 0, left.rows)?;
-        both.push_row_of(&right, 0)?;
-        let raised = rank(alloc, p, &both)? != rank(alloc, p, &left)?;
-        let b = right.vector(alloc, 0)?;
-        if b.fits(eliminated.trace.cols()) && b.is_below(f.size()) {
-            let answer = solve_by(alloc, f, &eliminated, &b)?;
-            found = worse(
-                found,
-                judge_answer(alloc, p, &left, &right, raised, &answer)?,
-            );
-        }
-    }
-    Ok(found)
 }
 
 /// Rows of two numbers modulo 3, and the evidence of their kernel.
@@ -549,8 +494,8 @@ fn worked_rows(rt: HostRuntime) -> Result<(), Fail> {
 
 /// Numbers by chance, the same in every run.
 #[derive(Drop)]
-pub(crate) struct Chance {
-    pub(crate) state: u64,
+struct Chance {
+    state: u64,
 }
 
 impl Chance {
@@ -565,7 +510,7 @@ impl Chance {
 
     /// A matrix. Each number is 0 `zeros` times of 4, and beyond; where `repeats`, each second row is a
     /// multiple of the one before it.
-    pub(crate) fn matrix(
+    fn matrix(
         &mut self,
         alloc: Global,
         p: u8,
@@ -613,14 +558,12 @@ fn judge<A: RowSpace<PrimeField>>(
         found,
         judge_extend(alloc, f, p, like, whole, whole.rows / 2)?,
     );
-    found = worse(found, judge_right_sides(alloc, f, p, like, whole)?);
-    found = worse(found, judge_growing(alloc, f, p, like, whole)?);
     Ok(worse(found, judge_columns(alloc, f, p, like, whole)?))
 }
 
-pub(crate) const PRIMES: [u8; 6] = [2, 3, 5, 7, 11, 13];
+const PRIMES: [u8; 6] = [2, 3, 5, 7, 11, 13];
 
-pub(crate) const SHAPES: [(u32, u32); 8] = [
+const SHAPES: [(u32, u32); 8] = [
     (0, 0),
     (0, 4),
     (4, 0),
@@ -632,7 +575,7 @@ pub(crate) const SHAPES: [(u32, u32); 8] = [
 ];
 
 /// How many times of 4 a number is 0, and whether rows repeat.
-pub(crate) const KINDS: [(u8, bool); 3] = [(0, false), (3, false), (0, true)];
+const KINDS: [(u8, bool); 3] = [(0, false), (3, false), (0, true)];
 
 #[test]
 fn random_matrices(rt: HostRuntime) -> Result<(), Fail> {
