@@ -51,8 +51,10 @@ pub const LINE: &[u8] = b"bmp-cert 1\nrank 1\nrow 2\nprime 2\nword 1 1\ndegree 1
 pub const LEVELS: &str = "bmp-cert 2\nrank 1\nrow 2\nprime 2\nword 1 1\ndegree 1\nvertices 2\n";
 /// The lines of its vertices, and of the blocks of degrees 0 and 1.
 pub const VERTICES: &str = "vertex 1 1 0\nvertex 0 1 0\nedges 1\nlift 1 0 1\n";
+
 pub const BLOCK_0: &str =
     "block 0 1 1 0\npivots 0\ncover 1 0 1\nsource 1 0 1\ndual 1 0 1\nrow 1 0 1\n";
+
 pub const BLOCK_1: &str = "block 1 1 0 1\npivots\ncover 0\nbasis 1 0 1\n";
 
 /// The parts of the vertices 3, 2 and 1 of the square with a diagonal, up to degree 1, behind a job that nothing reads.

@@ -61,9 +61,7 @@ fn section_at(
 {
     let tuple = Vector::of_numbers(alloc, &numbers)?;
     let sizes = s.sizes().block(s.graph(), s.given(), x, d);
-    if !tuple.fits(u32::try_from(sizes.columns)?)
-        || !tuple.is_below(u32::from(s.graph().prime()))
-    {
+    if !tuple.fits(u32::try_from(sizes.columns)?) || !tuple.is_below(u32::from(s.graph().prime())) {
         return Err(Fail::new("the numbers make no tuple"));
     }
     let sheaf = s.sheaf();
