@@ -1,7 +1,7 @@
 -- A block of parts whose sizes pass, by whole spaces, beside their sheaf in memory.
-use Rattle.std.proofs.Common.{◌≡◌, ℕ, ◌≤◌, length, refl, sym, ap, ◌∙◌}
-use Rattle.bmp_math.specs.Matrices.{Matrix}
+use Rattle.std.proofs.Common.{◌≡◌, ℕ, ◌≤◌, refl, ap, ◌∙◌}
 use Rattle.bmp_graph.specs.Graph.{Graph}
+use Rattle.bmp_sheaf.specs.Sheaves.{SheafData}
 use Rattle.bmp_sheaf.specs.States.{SheafState, sheaf_of}
 use Rattle.bmp_sections.specs.Positions.{position_count}
 use Rattle.bmp_sections.specs.Numbers.{is_above, equation_matrix}
@@ -14,7 +14,7 @@ use Rattle.bmp_check.specs.BlockData.{matrix_at}
 use Rattle.bmp_check.specs.Shaped.{HasWidth}
 use Rattle.bmp_check.specs.ShapedViews.{method_in, written_in}
 use Rattle.bmp_check.specs.Sizes.{counts_at}
-use Rattle.bmp_check.proofs.InputLemmas.{IsAtBlock, equations_are, kernel_room}
+use Rattle.bmp_check.proofs.InputLemmas.{IsAtBlock, to_memory, equations_are, kernel_room}
 
 -- the sizes as they are read
 pub sizes_read :
@@ -32,7 +32,9 @@ module _ {G : Graph} {c : Written} {F : Type 0} {s : SheafState F} {x d : ℕ} (
   -- there are as many columns as positions
   pub positions_are : (n : BlockSizes) → n ≡ counts_at G Spaces c x d →
       n.columns ≡ position_count s.graph (sheaf_of s) (is_above s.graph x) d
-  positions_are n is = ap (λ (k : BlockSizes). k.columns) is ∙ ap (λ (m : Matrix). m.cols) (sym equations)
+  positions_are n is =
+      to_memory at (λ (H : Graph) (S : SheafData). n.columns ≡ position_count H S (is_above H x) d)
+      (ap (λ (k : BlockSizes). k.columns) is)
 
   pub positions_within : (n : ℕ) → HasWidth G Spaces c n →
       position_count s.graph (sheaf_of s) (is_above s.graph x) d ≤ n

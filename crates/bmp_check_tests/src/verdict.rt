@@ -44,6 +44,8 @@ fn sizes_of_the_line_by_levels(rt: HostRuntime) -> Result<(), Fail> {
         version: 2,
         parts: &cert.vertices,
     };
+    assert_eq!(rt; check_count(&graph, &given), Ok(()));
+    assert_eq!(rt; (cert.vertices.len(), graph.vertices()), (2, 2));
     let table = SizeTable::new(rt.alloc(), &graph, &given)?;
     for (d, rows) in [(0, 1), (1, 0)] {
         let wanted = BlockSizes {
@@ -292,6 +294,7 @@ fn two_generators_above_the_line(rt: HostRuntime) -> Result<(), Fail> {
 fn ranks_of_the_line_by_levels(rt: HostRuntime) -> Result<(), Fail> {
     let graph = line(rt.alloc())?;
     let ranks = verdict_by_levels(&rt, rt.alloc(), &graph, VERTICES, BLOCK_0, BLOCK_1)??;
+    assert_eq!(rt; (ranks.vertices(), ranks.degree()), (2, 1));
     for (x, counts) in [(0, [1, 0]), (1, [1, 0])] {
         assert_eq!(rt;
             [ranks.count(x, 0), ranks.count(x, 1)],

@@ -1,7 +1,7 @@
 //! Certificates: what holds, and the first comparison that fails, by any number of workers.
 use crate::a3::A3;
 use crate::runs::{assert_run, with_line, with_lines};
-use crate::texts::{LINE, LINE_RANKS, POINT, SQUARE, SQUARE_RANKS, SURPLUS};
+use crate::texts::{LEVELS, LINE, LINE_RANKS, POINT, SQUARE, SQUARE_RANKS, SURPLUS, WEIGHTS};
 use bmp_program::Status;
 use std::alloc::Global;
 use std::process::Abort;
@@ -38,6 +38,8 @@ fn certificates_that_hold(rt: HostRuntime) -> Result<(), Fail> {
         (LINE, LINE_RANKS),
         (SQUARE, SQUARE_RANKS),
         (A3, A3_RANKS),
+        (LEVELS, LINE_RANKS),
+        (WEIGHTS, "rank 0 1\nrank 1 1\n"),
     ] {
         assert_check(&rt, rt.alloc(), text, Status::Done, written)?;
     }
@@ -183,6 +185,42 @@ fn one_line_altered(rt: HostRuntime) -> Result<(), Fail> {
             "pivots 0 3",
             "0 kind Shape index 4 place 0 left 4 right 3",
         ),
+        (
+            LEVELS,
+            13,
+            "pivots 1",
+            "0 kind Shape index 4 place 0 left 2 right 1",
+        ),
+        (
+            LEVELS,
+            14,
+            "cover 0",
+            "0 kind Cover index 0 place 0 left 0 right 1",
+        ),
+        (
+            LEVELS,
+            15,
+            "source 0",
+            "0 kind Source index 0 place 0 left 1 right 0",
+        ),
+        (
+            LEVELS,
+            16,
+            "dual 0",
+            "0 kind Dual index 0 place 0 left 0 right 1",
+        ),
+        (
+            LEVELS,
+            17,
+            "row 0",
+            "0 kind Kernel index 0 place 0 left 0 right 1",
+        ),
+        (
+            LEVELS,
+            21,
+            "basis 0",
+            "1 kind Kernel index 0 place 0 left 0 right 1",
+        ),
     ] {
         let changed = with_line(rt.alloc(), text, place, line)?;
         let written = format!(in rt.alloc(); "refused vertex 0 degree {refused}\n")?;
@@ -191,14 +229,21 @@ fn one_line_altered(rt: HostRuntime) -> Result<(), Fail> {
     Ok(())
 }
 
-/// The generator of the point is one of degree 1, the edge of the line is taken out, the tuple of the square is taken
-/// out, two blocks of the square are wrong, of which that of the greater vertex is told, and a second generator of the
-/// line has no dual form, since its boundary is zero.
+/// The generator of the point is one of degree 1, the edge of the line is taken out, the line by levels has a pivot
+/// where its boundary map is zero, the tuple of the square is taken out, two blocks of the square are wrong, of which
+/// that of the greater vertex is told, and a second generator of the line has no dual form, since its boundary is zero.
 #[test]
 fn several_lines_altered(rt: HostRuntime) -> Result<(), Fail> {
     let alloc = rt.alloc();
     let risen = with_lines(alloc, POINT, 6, 8, "degree 1\nvertices 1\nvertex 0 1 1")?;
     let no_edge = with_lines(alloc, LINE, 10, 11, "edges 0")?;
+    let pivot = with_lines(
+        alloc,
+        LEVELS,
+        18,
+        21,
+        "block 1 1 1 0\npivots 0\ncover 0\nrow 0",
+    )?;
     let pivots = "block 0 3 0\npivots 0 1 2\nrow 1 0 1\nrow 1 1 1\nrow 0\nsource 0";
     let no_tuple = with_lines(alloc, SQUARE, 32, 38, pivots)?;
     let one_cover = with_line(alloc, SQUARE, 16, "cover 0")?;
@@ -211,6 +256,10 @@ fn several_lines_altered(rt: HostRuntime) -> Result<(), Fail> {
         (
             &no_edge,
             "0 degree 0 kind Shape index 0 place 0 left 0 right 1",
+        ),
+        (
+            &pivot,
+            "0 degree 1 kind Kernel index 0 place 0 left 0 right 1",
         ),
         (
             &no_tuple,

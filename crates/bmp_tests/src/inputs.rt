@@ -8,7 +8,7 @@ use std::test::Fail;
 #[test]
 fn changed_lines_have_their_text_fault(rt: HostRuntime) -> Result<(), Fail> {
     for (text, place, line, fault) in [
-        (POINT, 1, "bmp-cert 2", "1 kind OutOfRange"),
+        (POINT, 1, "bmp-cert 4", "1 kind OutOfRange"),
         (POINT, 2, "rank 0", "3 kind WrongKeyword"),
         (POINT, 3, "row 1001", "3 kind OutOfRange"),
         (POINT, 4, "prime\t2", "4 kind NotAscii"),

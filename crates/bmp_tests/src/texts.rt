@@ -39,6 +39,55 @@ cover 0
 end
 ";
 
+/// The line by levels.
+pub const LEVELS: &str = "\
+bmp-cert 2
+rank 1
+row 2
+prime 2
+word 1 1
+degree 1
+vertices 2
+vertex 1 1 0
+vertex 0 1 0
+edges 1
+lift 1 0 1
+block 0 1 1 0
+pivots 0
+cover 1 0 1
+source 1 0 1
+dual 1 0 1
+row 1 0 1
+block 1 1 0 1
+pivots
+cover 0
+basis 1 0 1
+end
+";
+
+/// The line by levels and by the fundamental weights, in degree 0 and over the field of three elements.
+pub const WEIGHTS: &str = "\
+bmp-cert 3
+lattice 1
+rank 1
+row 2
+prime 3
+word 1 1
+degree 0
+vertices 2
+vertex 1 1 0
+vertex 0 1 0
+edges 1
+lift 1 0 1
+block 0 1 1 0
+pivots 0
+cover 1 0 1
+source 1 0 1
+dual 1 0 1
+row 1 0 1
+end
+";
+
 /// The line with a second generator at its lower vertex, whose boundary is zero.
 pub const SURPLUS: &str = "\
 bmp-cert 1

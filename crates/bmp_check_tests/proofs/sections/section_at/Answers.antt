@@ -1,10 +1,8 @@
-use Rattle.std.proofs.Common.{◌≡◌, ◌<◌, ap, subst, arith}
+use Rattle.std.proofs.Common.{◌≡◌, length, subst, arith}
 use Rattle.bmp_linear.specs.SparseVectors.{FitsBelow}
-use Rattle.bmp_graph.specs.Graph.{Graph, vertex_count}
 use Rattle.bmp_sheaf.specs.States.{sheaf_of}
 use Rattle.bmp_sections.specs.Positions.{position_count}
 use Rattle.bmp_sections.specs.Numbers.{is_above}
-use Rattle.bmp_check.specs.declared.given.Given.{Given}
 use Rattle.bmp_check.specs.declared.method.Method.{Method}
 use Rattle.bmp_check.specs.Shaped.{HasWidth, IsRoomFor}
 use Rattle.bmp_check.specs.ShapedViews.{graph_in, cert_in}
@@ -50,6 +48,7 @@ pub compatible-requires-clause-room : goal.compatible-requires-clause-room
 compatible-requires-clause-room c =
     let at = read_at c.requires.method c.sheaf-sheaf.ensures
     (at_block c.requires.whole c.args.x c.args.d c.requires.block) in
-    positions_within at _
-    (subst (λ (m : Method). HasWidth (graph_in c.args.s.now) m (cert_in c.args.s.now) _) c.requires.method
+    let n = length c.in_ok-scratch.scratch.numbers.first in
+    positions_within at n
+    (subst (λ (m : Method). HasWidth (graph_in c.args.s.now) m (cert_in c.args.s.now) n) c.requires.method
     c.in_ok-scratch.ensures.width)
