@@ -253,25 +253,13 @@ fn joined(alloc: Global, lines: &[&str]) -> Result<String, AllocError> {
     Ok(text)
 }
 
-// The first fault of a changed certificate of this version. `read_cert` gives the same, as far as it takes the version.
-fn first_fault(alloc: Global, version: u8, text: &str) -> Option<CertError> {
-    let bytes = text.as_bytes();
-    if version <= GREATEST_VERSION {
-        return read_cert(alloc, bytes).err();
-    }
-    read(alloc, bytes).err()
-}
-
-/// The greatest version that `read_cert` takes.
-const GREATEST_VERSION: u8 = 1;
-
 #[test]
 fn changed_lines_have_their_first_fault(rt: HostRuntime) -> Result<(), AllocError> {
     let alloc = rt.alloc();
-    for (text, version, faults) in [
-        (SQUARE, 1, SQUARE_FAULTS.as_slice()),
-        (LINE_BY_LEVELS, 2, LEVEL_FAULTS.as_slice()),
-        (WEIGHT_LINE, 3, WEIGHT_FAULTS.as_slice()),
+    for (text, faults) in [
+        (SQUARE, SQUARE_FAULTS.as_slice()),
+        (LINE_BY_LEVELS, LEVEL_FAULTS.as_slice()),
+        (WEIGHT_LINE, WEIGHT_FAULTS.as_slice()),
     ] {
         let mut lines = Vec::new(alloc);
         for line in text.lines() {
@@ -284,7 +272,7 @@ fn changed_lines_have_their_first_fault(rt: HostRuntime) -> Result<(), AllocErro
                 let other = joined(alloc, &changed(alloc, &lines, change, at)?)?;
                 let number = at as u64 + 1;
                 let want = fault_of(faults, change, number, lines.len() as u64);
-                let got = first_fault(alloc, version, &other);
+                let got = read_cert(alloc, other.as_bytes()).err();
                 assert_eq!(rt;
                     got,
                     want.map(|(line, kind)| CertError::Text(TextFault { line, kind })),
