@@ -28,8 +28,8 @@ fn quotient_dim(quotient: &Quotient, d: u32) -> u64
     <Quotient as GradedModule<PrimeField>>::dim(quotient, d)
 }
 
-/// In two variables there are 1, 2 and 3 monomials of degrees 0, 1 and 2, and 0, 1 and 2 of one degree less. Modulo its only
-/// variable a module in one variable has each generator in its own degree alone.
+/// In two variables there are 1, 2 and 3 monomials of degrees 0, 1 and 2, and 0, 1 and 2 of one degree less. Modulo its
+/// only variable a module in one variable has each generator in its own degree alone.
 #[test]
 fn dimensions(rt: HostRuntime) -> Result<(), Fail> {
     let free = Free::new(rt.alloc(), 2, &[0, 1])?;
@@ -207,23 +207,8 @@ fn image_in_the_quotient<F: Field>(
     Ok(same)
 }
 
-/// Whether a map to the sum of no parts sends x to 0, and x times 0 is 0 there.
-fn image_in_nothing<F: Field>(alloc: Global, f: &F, free: &Free) -> Result<bool, AllocError>
-    requires rank { 2 ≤ rank_of free.now }
-    requires generator { degrees_of free.now ≡ 0 ∷ [] }
-{
-    let one = free.generator(alloc, f, 0)?;
-    let x = free.act(alloc, f, [1, 0, 0, 0, 0, 0], &one)?;
-    let sum: Tuple<Free> = Tuple::new(alloc);
-    let own = sum.zero(alloc, f, 0)?;
-    let zero = sum.zero(alloc, f, 1)?;
-    let acted = acts(alloc, f, &sum, [1, 0, 0, 0, 0, 0], &own, &zero)?;
-    let sent = sends(alloc, f, free, &sum, own, &x, &zero)?;
-    Ok(acted && sent)
-}
-
-/// Modulo 3 and x + y the variable x is twice y, and not y. Products are those of a table, in its degrees and past them, and a
-/// map is known by the image of 1.
+/// Modulo 3 and x + y the variable x is twice y, and not y. Products are those of a table, in its degrees and past
+/// them, and a map is known by the image of 1.
 #[test]
 fn elements_modulo_a_label(rt: HostRuntime) -> Result<(), Fail> {
     let f = PrimeField::new(3).map_err(|_| "3")?;
@@ -252,7 +237,6 @@ fn elements_modulo_a_label(rt: HostRuntime) -> Result<(), Fail> {
             image_in_the_quotient(rt.alloc(), &f, &quotient)?,
             true,
         ),
-        ("nothing", image_in_nothing(rt.alloc(), &f, &free)?, true),
     ];
     for (name, found, want) in rows {
         assert_eq!(rt; found, want, "{name}");

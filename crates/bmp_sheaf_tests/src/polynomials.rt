@@ -93,8 +93,8 @@ fn has_coefficients(a: &Poly<PrimeField>, numbers: &[u8]) -> bool {
     numbers.len() == a.terms() as usize
 }
 
-/// Squares modulo 3 and a label, their normal forms, and whether these are 0, so that the label divides them. In the last row
-/// x x + 2 y y = (x + 2 y) (x + y).
+/// Squares modulo 3 and a label, their normal forms, and whether these are 0, so that the label divides them. In the
+/// last row x x + 2 y y = (x + 2 y) (x + y).
 #[test]
 fn normal_forms_modulo_3(rt: HostRuntime) -> Result<(), Fail> {
     let f = PrimeField::new(3).map_err(|_| "3")?;

@@ -87,7 +87,8 @@ fn begins(s: &Scratch, want: &[u8]) -> bool {
     true
 }
 
-/// Whether the boundary of the element of degree `d` at a vertex that is 1 at the coordinate `own` is this, found in each way.
+/// Whether the boundary of the element of degree `d` at a vertex that is 1 at the coordinate `own` is this, found in
+/// each way.
 fn has_boundary(
     rt: &impl Abort,
     alloc: Global,
@@ -113,7 +114,8 @@ fn has_boundary(
     Ok(generator && begins(&s, want))
 }
 
-/// On the edge to 1 the first variable is 0, on that to 2 the second, and on that from 1 to 3 the first is minus the second.
+/// On the edge to 1 the first variable is 0, on that to 2 the second, and on that from 1 to 3 the first is minus the
+/// second.
 #[test]
 fn boundaries_on_the_square(rt: HostRuntime) -> Result<(), Fail> {
     let alloc = rt.alloc();
