@@ -1,32 +1,8 @@
-//! Products and bars worked out by hand.
-use crate::matrices::{A1, A2, roots_of};
-use bmp_hecke::{HeckeElem, bar_of};
+//! Bars worked out by hand.
+use crate::matrices::{A2, roots_of};
+use bmp_hecke::bar_of;
 use bmp_weyl::product;
 use std::test::Fail;
-
-#[test]
-fn a_generator_squared(rt: HostRuntime) -> Result<(), Fail> {
-    let roots = roots_of(A1, 1)?;
-    let one = HeckeElem::one(rt.alloc(), &roots)?;
-    let generator = one.times_hs(rt.alloc(), &roots, 1)?;
-    let square = generator.times_hs(rt.alloc(), &roots, 1)?;
-    for (word, exponent, coefficient) in [
-        ([].as_slice(), 0, 1),
-        (&[], 1, 0),
-        (&[1], -1, 1),
-        (&[1], 0, 0),
-        (&[1], 1, -1),
-        (&[1], 73, 0),
-    ] {
-        let x = product(&roots, word).map_err(|_| "a letter")?;
-        assert_eq!(rt;
-            square.coefficient(&x, exponent),
-            coefficient,
-            "{word:?} {exponent}"
-        );
-    }
-    Ok(())
-}
 
 // The bar of the longest element of A2, with z = v - v^-1: z^3 + z at the identity, z^2 at the generators, z at the
 // elements of length 2, and 1 at itself.

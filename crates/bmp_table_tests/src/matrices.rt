@@ -7,8 +7,6 @@ use bmp_weyl::product;
 use std::alloc::Global;
 use std::test::Fail;
 
-pub const A1: &[i64] = &[2];
-
 pub const A2: &[i64] = &[2, -1, -1, 2];
 
 pub const A3: &[i64] = &[2, -1, 0, -1, 2, -1, 0, -1, 2];

@@ -1,14 +1,9 @@
-//! One certificate of each version: there and back; and with a line cut out, doubled, exchanged with the next one, or
-//! put behind the end, its first fault.
-ghost use Rattle.std.specs.Prelude.{◌≤◌, ◌<◌, IfOk};
-
-use bmp_cert::{
-    CertError, Job, Parts, parts_formed, push_parts, read_cert, read_job_lines, read_parts,
-};
+//! One certificate of each version with a line cut out, doubled, exchanged with the next one, or put behind the end: its
+//! first fault.
+use bmp_cert::{CertError, read_cert};
+use bmp_text::TextFault;
 use bmp_text::TextKind::{self, MissingLine, OutOfRange, TrailingText, WrongKeyword};
-use bmp_text::{Lines, TextFault};
 use std::alloc::{AllocError, Global};
-use std::test::Fail;
 
 /// Version 1: type A2, the word 1 2, three elements, up to degree 0.
 const SQUARE: &str = "\
@@ -102,61 +97,6 @@ dual 1 0 1
 row 1 0 1
 end
 ";
-
-// A line of a keyword and a small number.
-fn number_of(lines: &mut Lines, word: &[u8], low: u64, high: u64) -> Result<u64, CertError>
-    requires { high < 4 }
-    ensures { IfOk result (λ n. (low ≤ n) × (n ≤ high)) }
-{
-    let mut line = lines.next_line()?;
-    line.keyword(word)?;
-    let number = line.natural(low, high)?;
-    line.finish()?;
-    Ok(number)
-}
-
-// The job lines and the parts of a certificate of any version, line by line.
-fn read(alloc: Global, text: &[u8]) -> Result<(Job, Parts), CertError> {
-    let mut lines = Lines::new(text);
-    let version = number_of(&mut lines, b"bmp-cert", 1, 3)?;
-    if version == 3 {
-        number_of(&mut lines, b"lattice", 0, 1)?;
-    }
-    let job = read_job_lines(alloc, &mut lines)?;
-    let parts = read_parts(alloc, &mut lines, version as u8, job.prime, job.degree)?;
-    let mut last = lines.next_line()?;
-    last.keyword(b"end")?;
-    last.finish()?;
-    lines.finish()?;
-    Ok((job, parts))
-}
-
-/// By row a text, its version, and whether its parts have a text in each of the versions 0 to 4: by levels there may be
-/// other numbers of covers and of vectors.
-#[test]
-fn parts_there_and_back(rt: HostRuntime) -> Result<(), Fail> {
-    let alloc = rt.alloc();
-    for (text, version, in_versions) in [
-        (SQUARE, 1, [false, true, true, true, false]),
-        (LINE_BY_LEVELS, 2, [false, false, true, true, false]),
-        (WEIGHT_LINE, 3, [false, false, true, true, false]),
-    ] {
-        let (job, parts) = read(alloc, text.as_bytes())?;
-        let mut formed = [false; 5];
-        for v in 0..5 {
-            formed[v] = parts_formed(&parts, v as u8, job.prime, job.degree);
-        }
-        assert_eq!(rt; formed, in_versions, "{text}");
-        let mut printed = Vec::new(alloc);
-        if parts_formed(&parts, version, job.prime, job.degree) {
-            push_parts(&mut printed, version, &parts)?;
-        }
-        printed.extend_from_slice(b"end\n")?;
-        let starts = printed.starts_with(b"vertices ");
-        assert!(rt; starts && text.as_bytes().ends_with(&printed), "{text}");
-    }
-    Ok(())
-}
 
 /// What is done with a line of a text.
 #[derive(Clone, Copy, Debug, PartialEq, Eq)]
