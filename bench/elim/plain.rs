@@ -1,9 +1,11 @@
 //! Reduces a matrix modulo a prime and prints how long that takes: a plain program to compare with.
 //!
-//! The matrix is read as bytes: the prime, how many hundred numbers a row has, and the numbers row after row.
+//! The matrix is read as bytes: the prime, and the numbers row after row, 1000 to a row.
 
 use std::io::{self, Read};
 use std::time::Instant;
+
+const COLS: usize = 1000;
 
 /// Adds `c` times a row to another, through the row's multiple that is made once for each factor.
 fn add_row(p: u8, multiple: &[u8], into: &mut [u8]) {
@@ -21,9 +23,9 @@ fn times(p: u8, c: u8, row: &[u8]) -> Vec<u8> {
 }
 
 /// The reduced echelon form, in place, and its rank.
-fn reduce(p: u8, cols: usize, rows: &mut [Vec<u8>]) -> usize {
+fn reduce(p: u8, rows: &mut [Vec<u8>]) -> usize {
     let mut rank = 0;
-    for col in 0..cols {
+    for col in 0..COLS {
         let Some(found) = (rank..rows.len()).find(|i| rows[*i][col] != 0) else {
             continue;
         };
@@ -48,10 +50,9 @@ fn main() -> io::Result<()> {
     let mut bytes = Vec::new();
     io::stdin().read_to_end(&mut bytes)?;
     let p = bytes[0];
-    let cols = 100 * usize::from(bytes[1]);
-    let mut rows: Vec<Vec<u8>> = bytes[2..].chunks(cols).map(<[u8]>::to_vec).collect();
+    let mut rows: Vec<Vec<u8>> = bytes[1..].chunks(COLS).map(<[u8]>::to_vec).collect();
     let start = Instant::now();
-    let rank = reduce(p, cols, &mut rows);
+    let rank = reduce(p, &mut rows);
     let spent = start.elapsed().as_micros();
     println!("plain program: rank {rank}, {spent} us");
     Ok(())
