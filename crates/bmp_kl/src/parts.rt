@@ -31,7 +31,8 @@ fn add_row(parts: &mut Vec<i128>, rows: &Rows, x: usize, start: usize, gap: usiz
     requires small { (j : ℕ) → j < 19 → row_value rows.now.values.items x j ≤ 2 ^ 36 }
     requires top { IsWithin 1000000 top }
     requires fits { (d : ℕ) → d < 37 → IsWithin (2 ^ 69) (slice_index_or parts.old.items (start + d) (pos 0)) }
-    ensures { IsRowAdded start gap (gap / 2 + 1) top (row_value rows.now.values.items x) parts.old.items parts.new.items }
+    ensures { IsRowAdded start gap (gap / 2 + 1) top (row_value rows.now.values.items x)
+        parts.old.items parts.new.items }
 {
     if rows.live[x] {
         for j in 0..gap / 2 + 1 {

@@ -1,5 +1,5 @@
-//! Tests of the fields, of the rows over them and of elimination, each a table of numbers that were worked out by hand or
-//! that plain arithmetic judges.
+//! Tests of the fields, of the rows over them and of elimination, each a table of numbers that were worked out by hand
+//! or that plain arithmetic judges.
 #![tactic(auto)]
 
 #[cfg(test)]

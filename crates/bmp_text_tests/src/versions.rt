@@ -1,5 +1,5 @@
-//! One certificate of each version with a line cut out, doubled, exchanged with the next one, or put behind the end: its
-//! first fault.
+//! One certificate of each version with a line cut out, doubled, exchanged with the next one, or put behind the end:
+//! its first fault.
 use bmp_cert::{CertError, read_cert};
 use bmp_text::TextFault;
 use bmp_text::TextKind::{self, MissingLine, OutOfRange, TrailingText, WrongKeyword};
