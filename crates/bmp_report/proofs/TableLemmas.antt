@@ -1,18 +1,16 @@
 -- The text of a table: the words of its coefficients, and that no coefficient is left out.
-use Rattle.std.proofs.Common.{◌≡◌, ◌≢◌, ℕ, zero, suc, ◌+◌, ◌-◌, ◌<◌, ◌≤◌, ◌⊎◌, ◌==◌, false, true, refl, sym, ap, ◌∙◌, List, [], ◌∷◌, ◌++◌, append_assoc, codes, ℤ, pos, negsuc, neg_ℤ, arith, inl, inr}
-use Rattle.std.specs.Prelude.{if◌then◌else◌}
+use Rattle.std.proofs.Common.{◌≡◌, ◌≢◌, ℕ, ◌+◌, ◌-◌, ◌<◌, ◌≤◌, ◌⊎◌, ◌==◌, false, refl, List, [], ◌∷◌, ◌++◌, append_assoc, codes, ℤ, pos, negsuc, arith, inl, inr}
 use Rattle.std.specs.Int.RustNames.{unsigned_abs}
 use Rattle.std.specs.Fmt.{decimal, signed_decimal}
 use Rattle.std.proofs.lemmas.Bool.{cases_eq}
 use Rattle.std.proofs.lemmas.Bool.Decides.{nat_tests}
 use Rattle.std.proofs.lemmas.Int.{ints}
-use Rattle.bmp_hecke.specs.Laurents.{Laurent, flip}
+use Rattle.bmp_hecke.specs.Laurents.{Laurent}
 use Rattle.bmp_kl.specs.Tables.{Bars, IsTable, IsTriangular}
 use Rattle.bmp_kl.specs.KlTables.{count_of, sum_of, coefficient_of, IsNotDual}
 use Rattle.bmp_kl.specs.declared.table.KlTable.{KlTable}
 use Rattle.bmp_kl.specs.declared.not_dual.NotDual.{NotDual}
-use Rattle.bmp_kl.proofs.TableLemmas.{table_span, positive_zero}
-use Rattle.bmp_text.specs.Printing.{spaced_words}
+use Rattle.bmp_kl.proofs.TableLemmas.{table_span}
 use Rattle.bmp_report.specs.TableText.{coefficient_words, not_dual_line, IsFirstUnequal, KlTextHasAll}
 use Rattle.bmp_report.specs.FaultLines.{numbered_text}
 

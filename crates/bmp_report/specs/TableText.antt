@@ -9,7 +9,7 @@
 --   IsKlText n h q text          the text is the lines of all vertices and the line of self-duality
 --   limit_line x                 `table limit vertex x`: a coefficient of h_x passes the limit
 --   KlTextHasAll                 no table of an interval has a coefficient at another exponent than 0 to 36
-use Rattle.std.specs.Prelude.{◌≡◌, ◌≢◌, ℕ, ◌+◌, ◌<◌, ◌≤◌, ◌==◌, if◌then◌else◌, ◌⊎◌, List, [], ◌∷◌, ◌++◌, codes, ℤ, pos, ◌-ℤ◌, ◌<ℤ◌}
+use Rattle.std.specs.Prelude.{◌≡◌, ◌≢◌, ℕ, ◌+◌, ◌<◌, ◌==◌, if◌then◌else◌, ◌⊎◌, List, [], ◌∷◌, ◌++◌, codes, ℤ, pos, ◌-ℤ◌, ◌<ℤ◌}
 use Rattle.std.specs.Fmt.{decimal, signed_decimal}
 use Rattle.std.specs.Int.RustNames.{unsigned_abs}
 use Rattle.bmp_text.specs.Printing.{line_text, range_text}
