@@ -3,7 +3,7 @@
 use Rattle.std.proofs.Common.{◌≡◌, ◌<◌, ◌≤◌, ℕ, ℤ, List, length, sym, ap, subst, ◌∙◌, arith}
 use Rattle.std.proofs.Math.Path.{fun_ext}
 use Rattle.std.specs.Int.RustNames.{unsigned_abs}
-use Rattle.bmp_roots.specs.RootPairs.{CartanMatrix, Vector}
+use Rattle.bmp_roots.specs.RootPairs.{CartanMatrix}
 use Rattle.bmp_roots.specs.PositiveRoots.{ArePositiveRoots}
 use Rattle.bmp_roots.specs.RootSystems.{matrix_of, positive_roots_of}
 use Rattle.bmp_roots.specs.declared.root_system.Roots.{Roots}
