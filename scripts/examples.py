@@ -16,7 +16,7 @@ import tempfile
 from pathlib import Path
 
 TOP = Path(__file__).resolve().parent.parent
-COMMANDS = {"output": "check", "`check`": "check", "`gkm`": "gkm", "`graph`": "graph"}
+COMMANDS = {"output": "check", "`check`": "check", "`gkm`": "gkm", "`graph`": "graph", "`kl`": "kl"}
 
 
 def transcript(text):

@@ -11,7 +11,7 @@ use Rattle.bmp_interval.specs.IntervalViews.{system_of, vertices_of}
 use Rattle.bmp_interval.specs.declared.interval.Interval.{Interval}
 use Rattle.bmp_graph.specs.Graph.{Graph}
 use Rattle.bmp_report.specs.GraphText.{graph_text, gkm_text}
-use Rattle.bmp_program.specs.Reports.{fault_status, JobReport, CertReport, GraphReport, GkmReport}
+use Rattle.bmp_program.specs.Reports.{fault_status, JobReport, CertReport, GraphReport, GkmReport, KlReport}
 use Rattle.bmp_program.specs.Runs.{Report}
 use Rattle.bmp_program.specs.declared.status.Status.{Status}
 use Rattle.bmp_program.specs.declared.status.Status.TheVariants.{Done, BadJob, GkmFailed}
@@ -57,6 +57,12 @@ pub graph_fault : (j : Job) (s : Status) (text : List ℕ) → (KeepsAll graph_r
 graph_fault j s text none is =
     let bad : s ≡ BadJob = is.2 ∙ early_status j is.0 none is.1 in
     subst (λ (t : Status). GraphReport j t text) (sym bad) (subst (λ (t : Status). JobReport j t text) bad is)
+
+pub kl_fault : (j : Job) (s : Status) (text : List ℕ) → (KeepsAll graph_rules j → ⊥) → JobReport j s text →
+    KlReport j s text
+kl_fault j s text none is =
+    let bad : s ≡ BadJob = is.2 ∙ early_status j is.0 none is.1 in
+    subst (λ (t : Status). KlReport j t text) (sym bad) (subst (λ (t : Status). JobReport j t text) bad is)
 
 -- where all rules that are tried hold, the text is that of the job's graph
 pub graph_done : (j : Job) (interval : Interval) (g : Graph) (text : List ℕ) (answer : Report) →

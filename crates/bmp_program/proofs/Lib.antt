@@ -3,3 +3,4 @@ pub mod HeadlineLemmas
 pub mod StatusLemmas
 pub mod JobAnswerLemmas
 pub mod CheckAnswerLemmas
+pub mod TableLemmas

@@ -6,9 +6,9 @@ use Rattle.bmp_program.specs.CommandLine.{asked}
 use Rattle.bmp_program.specs.Reports.{input_limit, TextReport, InputReport, CommandReport, IsReport}
 use Rattle.bmp_program.specs.Runs.{Report, Holds, Reports, DecidedBy, IsDecided}
 use Rattle.bmp_program.specs.declared.words.CommandWord.{CommandWord}
-use Rattle.bmp_program.specs.declared.words.CommandWord.TheVariants.{Check, Graph, Gkm}
+use Rattle.bmp_program.specs.declared.words.CommandWord.TheVariants.{Check, Graph, Gkm, Kl}
 use Rattle.bmp_program.specs.declared.status.Status.{Status}
-use Rattle.bmp_program.specs.declared.status.Status.TheVariants.{Done, Refused, BadText, BadJob, GkmFailed, ReadFault, WriteFault, NoMemory, TooLong, Usage}
+use Rattle.bmp_program.specs.declared.status.Status.TheVariants.{Done, Refused, BadText, BadJob, GkmFailed, ReadFault, WriteFault, NoMemory, TooLong, TableLimit, Usage}
 
 -- all that is left came
 pub whole_held : (left after : Option (List ℕ)) (input : List ℕ) → Passes left after input → IsAtEnd after →
@@ -49,24 +49,28 @@ unfolding NotOfText
 not_too_long Check input text is = is.2
 not_too_long Graph input text is = is.2
 not_too_long Gkm input text is = is.2
+not_too_long Kl input text is = is.2.1.2
 
 not_read_fault : NotOfText ReadFault
 unfolding NotOfText
 not_read_fault Check input text is = is.2
 not_read_fault Graph input text is = is.2
 not_read_fault Gkm input text is = is.2
+not_read_fault Kl input text is = is.2.1.2
 
 not_write_fault : NotOfText WriteFault
 unfolding NotOfText
 not_write_fault Check input text is = is.2
 not_write_fault Graph input text is = is.2
 not_write_fault Gkm input text is = is.2
+not_write_fault Kl input text is = is.2.1.2
 
 not_no_memory : NotOfText NoMemory
 unfolding NotOfText
 not_no_memory Check input text is = is.2
 not_no_memory Graph input text is = is.2
 not_no_memory Gkm input text is = is.2
+not_no_memory Kl input text is = is.2.1.2
 
 -- what is answered to an input within the limit is decided
 text_decided : (s : Status) (command : CommandWord) (left : Option (List ℕ)) (rose : Type 0) (input text : List ℕ) →
@@ -82,6 +86,7 @@ text_decided ReadFault command left rose input text held fits is = absurd (not_r
 text_decided WriteFault command left rose input text held fits is = absurd (not_write_fault command input text is)
 text_decided NoMemory command left rose input text held fits is = absurd (not_no_memory command input text is)
 text_decided TooLong command left rose input text held fits is = absurd (not_too_long command input text is)
+text_decided TableLimit command left rose input text held fits is = (input, held, (fits, is))
 text_decided Usage command left rose input text held fits is = (input, held, (fits, is))
 
 pub report_decided : (command : CommandWord) (left : Option (List ℕ)) (rose : Type 0) (answer : Report) (input : List ℕ)

@@ -20,12 +20,13 @@ use Rattle.bmp_check.proofs.PassLemmas.{none_fails}
 use Rattle.bmp_cert.specs.Counts.{written_by}
 use Rattle.bmp_check.specs.Verdicts.{Passes, IsFirstRefusal}
 use Rattle.bmp_check.specs.declared.refusal.Refusal.{Refusal}
+use Rattle.bmp_program.proofs.TableLemmas.{TableFits, TablePasses, table_fits, table_passes, fits_or_passes}
 use Rattle.bmp_program.specs.CommandLine.{asked}
-use Rattle.bmp_program.specs.Reports.{input_limit, IsCertOf, IsJobOf, fault_status, CertReport, GraphReport, GkmReport, CertTextReport, JobTextReport, TextReport, InputReport, CommandReport, IsReport, HasOneStatus}
+use Rattle.bmp_program.specs.Reports.{input_limit, IsCertOf, IsJobOf, fault_status, CertReport, GraphReport, GkmReport, KlReport, CertTextReport, JobTextReport, TextReport, InputReport, CommandReport, IsReport, HasOneStatus}
 use Rattle.bmp_program.specs.declared.words.CommandWord.{CommandWord}
-use Rattle.bmp_program.specs.declared.words.CommandWord.TheVariants.{Check, Graph as GraphCommand, Gkm as GkmCommand}
+use Rattle.bmp_program.specs.declared.words.CommandWord.TheVariants.{Check, Graph as GraphCommand, Gkm as GkmCommand, Kl as KlCommand}
 use Rattle.bmp_program.specs.declared.status.Status.{Status}
-use Rattle.bmp_program.specs.declared.status.Status.TheVariants.{Done, Refused, BadText, BadJob, GkmFailed, ReadFault, WriteFault, NoMemory, TooLong, Usage}
+use Rattle.bmp_program.specs.declared.status.Status.TheVariants.{Done, Refused, BadText, BadJob, GkmFailed, ReadFault, WriteFault, NoMemory, TooLong, TableLimit, Usage}
 
 -- the text of a certificate is read as that certificate
 read_as : (c : Cert) (input : List ℕ) → IsCertOf c input → whole cert input ≡ Ok c
@@ -100,6 +101,7 @@ cert_case c ReadFault text is = absurd is
 cert_case c WriteFault text is = absurd is
 cert_case c NoMemory text is = absurd is
 cert_case c TooLong text is = absurd is
+cert_case c TableLimit text is = absurd is
 cert_case c Usage text is = absurd is
 
 one_cert_case : (c : Cert) (s t : Status) → CertCase c s → CertCase c t → s ≡ t
@@ -136,6 +138,7 @@ cert_text_case input GkmFailed text is = at_cert input GkmFailed text is
 cert_text_case input ReadFault text is = at_cert input ReadFault text is
 cert_text_case input WriteFault text is = at_cert input WriteFault text is
 cert_text_case input NoMemory text is = at_cert input NoMemory text is
+cert_text_case input TableLimit text is = at_cert input TableLimit text is
 cert_text_case input Usage text is = at_cert input Usage text is
 
 same_cert : (input : List ℕ) (c d : Cert) (s t : Status) → whole cert input ≡ Ok c → whole cert input ≡ Ok d →
@@ -186,6 +189,7 @@ graph_case j ReadFault text is = absurd is
 graph_case j WriteFault text is = absurd is
 graph_case j NoMemory text is = absurd is
 graph_case j TooLong text is = absurd is
+graph_case j TableLimit text is = absurd is
 graph_case j Usage text is = absurd is
 
 gkm_case : (j : Job) (s : Status) (text : List ℕ) → GkmReport j s text → Decides (KeepsAll rules) j s
@@ -200,19 +204,52 @@ gkm_case j ReadFault text is = absurd is
 gkm_case j WriteFault text is = absurd is
 gkm_case j NoMemory text is = absurd is
 gkm_case j TooLong text is = absurd is
+gkm_case j TableLimit text is = absurd is
 gkm_case j Usage text is = absurd is
 
-JobTextCase : (Job → Type 0) → List ℕ → Status → Type 0
-JobTextCase Kept input s = ((s ≡ BadText) × ((f : TextFault) × (whole job input ≡ Err f)))
-    ⊎ ((j : Job) × (whole job input ≡ Ok j) × Decides Kept j s)
+-- the table of a job that keeps the rules of the graph keeps the limit or passes it
+KlCase : Job → Status → Type 0
+KlCase j s = (JobCase j s × (KeepsAll graph_rules j → ⊥))
+    ⊎ (((s ≡ Done) × KeepsAll graph_rules j × TableFits j) ⊎ ((s ≡ TableLimit) × KeepsAll graph_rules j × TablePasses j))
 
-module _ (report : Job → Status → List ℕ → Type 0) (Kept : Job → Type 0) (of : (j : Job) (s : Status) (text : List ℕ) →
-    report j s text → Decides Kept j s) (input text : List ℕ) where
-  at_job : (s : Status) → ((j : Job) × IsJobOf j input × report j s text) → JobTextCase Kept input s
+kl_case : (j : Job) (s : Status) (text : List ℕ) → KlReport j s text → KlCase j s
+unfolding KlCase
+kl_case j BadJob text is = let broken = job_case j BadJob is.0 is.1 is.2 in inl (broken, bad_job j broken)
+kl_case j Done text is = inr (inl (refl, is.0, table_fits j text is.1))
+kl_case j TableLimit text is = inr (inr (refl, is.0, table_passes j text is.1))
+kl_case j GkmFailed text is = absurd is.1.2
+kl_case j BadText text is = absurd is.1.2
+kl_case j Refused text is = absurd is.1.2
+kl_case j ReadFault text is = absurd is.1.2
+kl_case j WriteFault text is = absurd is.1.2
+kl_case j NoMemory text is = absurd is.1.2
+kl_case j TooLong text is = absurd is.1.2
+kl_case j Usage text is = absurd is.1.2
+
+one_kl_case : (j : Job) (s t : Status) → KlCase j s → KlCase j t → s ≡ t
+unfolding KlCase
+one_kl_case j s t (inl a) (inl b) = one_job_case j s t a.0 b.0
+one_kl_case j s t (inl a) (inr (inl b)) = absurd (a.1 b.1)
+one_kl_case j s t (inl a) (inr (inr b)) = absurd (a.1 b.1)
+one_kl_case j s t (inr (inl a)) (inl b) = absurd (b.1 a.1)
+one_kl_case j s t (inr (inl a)) (inr (inl b)) = a.0 ∙ sym b.0
+one_kl_case j s t (inr (inl a)) (inr (inr b)) = absurd (fits_or_passes j a.2 b.2)
+one_kl_case j s t (inr (inr a)) (inl b) = absurd (b.1 a.1)
+one_kl_case j s t (inr (inr a)) (inr (inl b)) = absurd (fits_or_passes j b.2 a.2)
+one_kl_case j s t (inr (inr a)) (inr (inr b)) = a.0 ∙ sym b.0
+
+-- the case of a job text, by the cases of a job
+JobTextCase : (Job → Status → Type 0) → List ℕ → Status → Type 0
+JobTextCase Case input s = ((s ≡ BadText) × ((f : TextFault) × (whole job input ≡ Err f)))
+    ⊎ ((j : Job) × (whole job input ≡ Ok j) × Case j s)
+
+module _ (report : Job → Status → List ℕ → Type 0) (Case : Job → Status → Type 0)
+    (of : (j : Job) (s : Status) (text : List ℕ) → report j s text → Case j s) (input text : List ℕ) where
+  at_job : (s : Status) → ((j : Job) × IsJobOf j input × report j s text) → JobTextCase Case input s
   unfolding JobTextCase
   at_job s found = inr (found.0, read_as_job found.0 input found.1, of found.0 s text found.2)
 
-  job_text_case : (s : Status) → JobTextReport report input s text → JobTextCase Kept input s
+  job_text_case : (s : Status) → JobTextReport report input s text → JobTextCase Case input s
   unfolding JobTextCase
   job_text_case BadText is = inl (refl, (is.0, is.1))
   job_text_case TooLong is = at_job TooLong is
@@ -223,35 +260,44 @@ module _ (report : Job → Status → List ℕ → Type 0) (Kept : Job → Type 
   job_text_case ReadFault is = at_job ReadFault is
   job_text_case WriteFault is = at_job WriteFault is
   job_text_case NoMemory is = at_job NoMemory is
+  job_text_case TableLimit is = at_job TableLimit is
   job_text_case Usage is = at_job Usage is
 
-same_job : (Kept : Job → Type 0) (input : List ℕ) (i j : Job) (s t : Status) → whole job input ≡ Ok i →
-    whole job input ≡ Ok j → Decides Kept i s → Decides Kept j t → s ≡ t
-same_job Kept input i j s t of_i of_j p q =
-    let same : j ≡ i = cc in
-    one_decided Kept i s t p (subst (λ (k : Job). Decides Kept k t) same q)
+module _ (Case : Job → Status → Type 0) (one : (j : Job) (s t : Status) → Case j s → Case j t → s ≡ t) (input : List ℕ)
+  where
+    same_job : (i j : Job) (s t : Status) → whole job input ≡ Ok i → whole job input ≡ Ok j → Case i s → Case j t → s ≡ t
+    same_job i j s t of_i of_j p q =
+        let same : j ≡ i = cc in
+        one i s t p (subst (λ (k : Job). Case k t) same q)
 
-one_job_text_case : (Kept : Job → Type 0) (input : List ℕ) (s t : Status) → JobTextCase Kept input s →
-    JobTextCase Kept input t → s ≡ t
-unfolding JobTextCase
-one_job_text_case Kept input s t (inl a) (inl b) = a.0 ∙ sym b.0
-one_job_text_case Kept input s t (inl a) (inr b) = let p = a.1.1 in let q = b.1 in cc
-one_job_text_case Kept input s t (inr a) (inl b) = let p = b.1.1 in let q = a.1 in cc
-one_job_text_case Kept input s t (inr a) (inr b) = same_job Kept input a.0 b.0 s t a.1 b.1 a.2 b.2
+    one_job_text_case : (s t : Status) → JobTextCase Case input s → JobTextCase Case input t → s ≡ t
+    unfolding JobTextCase
+    one_job_text_case s t (inl a) (inl b) = a.0 ∙ sym b.0
+    one_job_text_case s t (inl a) (inr b) = let p = a.1.1 in let q = b.1 in cc
+    one_job_text_case s t (inr a) (inl b) = let p = b.1.1 in let q = a.1 in cc
+    one_job_text_case s t (inr a) (inr b) = same_job a.0 b.0 s t a.1 b.1 a.2 b.2
 
 -- ---- the cases of an input
+
+one_job_text : (report : Job → Status → List ℕ → Type 0) (Case : Job → Status → Type 0)
+    → ((j : Job) (s : Status) (text : List ℕ) → report j s text → Case j s)
+    → ((j : Job) (s t : Status) → Case j s → Case j t → s ≡ t)
+    → (input : List ℕ) (s t : Status) (a b : List ℕ) → JobTextReport report input s a → JobTextReport report input t b →
+    s ≡ t
+one_job_text report Case of one input s t a b p q =
+    one_job_text_case Case one input s t (job_text_case report Case of input a s p)
+    (job_text_case report Case of input b t q)
 
 one_text : (command : CommandWord) (input : List ℕ) (s t : Status) (a b : List ℕ) → TextReport command input s a →
     TextReport command input t b → s ≡ t
 one_text Check input s t a b p q =
     one_cert_text_case input s t (cert_text_case input s a p) (cert_text_case input t b q)
 one_text GraphCommand input s t a b p q =
-    one_job_text_case (KeepsAll graph_rules) input s t
-    (job_text_case GraphReport (KeepsAll graph_rules) graph_case input a s p)
-    (job_text_case GraphReport (KeepsAll graph_rules) graph_case input b t q)
+    one_job_text GraphReport (Decides (KeepsAll graph_rules)) graph_case (one_decided (KeepsAll graph_rules)) input s t
+    a b p q
 one_text GkmCommand input s t a b p q =
-    one_job_text_case (KeepsAll rules) input s t (job_text_case GkmReport (KeepsAll rules) gkm_case input a s p)
-    (job_text_case GkmReport (KeepsAll rules) gkm_case input b t q)
+    one_job_text GkmReport (Decides (KeepsAll rules)) gkm_case (one_decided (KeepsAll rules)) input s t a b p q
+one_text KlCommand input s t a b p q = one_job_text KlReport KlCase kl_case one_kl_case input s t a b p q
 
 InputCase : CommandWord → List ℕ → Status → List ℕ → Type 0
 InputCase command input s text = ((s ≡ TooLong) × (input_limit < length input))
@@ -269,6 +315,7 @@ input_case command input GkmFailed text is = inr is
 input_case command input ReadFault text is = inr is
 input_case command input WriteFault text is = inr is
 input_case command input NoMemory text is = inr is
+input_case command input TableLimit text is = inr is
 input_case command input Usage text is = inr is
 
 one_input_case : (command : CommandWord) (input : List ℕ) (s t : Status) (a b : List ℕ) → InputCase command input s a →

@@ -15,7 +15,7 @@ use Rattle.clap.specs.Simple.{App, new_app, new_rule, with_rule, on_top, matches
 use Rattle.clap.specs.Faults.{fault_of}
 use Rattle.clap.specs.declared.builder.value_parser.ValueParser.TheVariants as parser
 use Rattle.bmp_program.specs.declared.words.CommandWord.{CommandWord}
-use Rattle.bmp_program.specs.declared.words.CommandWord.TheVariants.{Check, Graph, Gkm}
+use Rattle.bmp_program.specs.declared.words.CommandWord.TheVariants.{Check, Graph, Gkm, Kl}
 
 -- the command word, which is required
 abbrev pub command_rule : Rule
@@ -52,12 +52,14 @@ abbrev pub named : Text → Option CommandWord
 named text =
     if bytes_eq text (codes "check") then Some Check
     else (if bytes_eq text (codes "graph") then Some Graph
-    else (if bytes_eq text (codes "gkm") then Some Gkm else None))
+    else (if bytes_eq text (codes "gkm") then Some Gkm
+    else (if bytes_eq text (codes "kl") then Some Kl else None)))
 
 abbrev pub takes_seed : CommandWord → Bool
 takes_seed Check = false
 takes_seed Graph = false
 takes_seed Gkm = false
+takes_seed Kl = false
 
 -- the command, but none where a seed is given and the command takes none
 abbrev pub allowed : Bool → CommandWord → Option CommandWord

@@ -9,7 +9,12 @@
 --   JobReport j status text     what is answered to a job that breaks a rule
 --   CertReport c status text    what the check of a certificate answers: that its job breaks a rule, that a comparison
 --                               fails, or its ranks
---   GraphReport, GkmReport      what `graph` and `gkm` answer to a job
+--   GraphReport, GkmReport, KlReport
+--                               what `graph`, `gkm` and `kl` answer to a job
+--   table_limit                 how large in size the coefficients of a table may be
+--   TableReport roots vertices status text
+--                               what is answered to the vertices of a job: their table, or the first of them that
+--                               passes the limit
 --   CertTextReport, JobTextReport, TextReport
 --                               what a command answers to an input within the limit
 --   InputReport command input status text
@@ -19,7 +24,8 @@
 --   IsReport words input status text
 --                               what the program answers
 --   HasOneStatus                words and input have one status at most
-use Rattle.std.specs.Prelude.{◌≡◌, ◌<◌, ◌≤◌, ℕ, List, Option, Some, None, Err, codes, length}
+use Rattle.std.specs.Prelude.{◌≡◌, ◌<◌, ◌≤◌, ℕ, ℤ, List, Option, Some, None, Err, codes, length}
+use Rattle.std.specs.Int.RustNames.{unsigned_abs}
 use Rattle.clap.specs.Walk.{Text}
 use Rattle.bmp_text.specs.declared.fault.TextFault.{TextFault}
 use Rattle.bmp_text.specs.Readers.{whole}
@@ -27,11 +33,18 @@ use Rattle.bmp_cert.specs.declared.job.Job.{Job}
 use Rattle.bmp_cert.specs.declared.cert.Cert.{Cert}
 use Rattle.bmp_cert.specs.declared.job_fault.JobFault.{JobFault}
 use Rattle.bmp_cert.specs.declared.job_fault.JobFault.TheVariants.{Gkm}
+use Rattle.bmp_roots.specs.RootSystems.{matrix_of, positive_roots_of}
+use Rattle.bmp_roots.specs.declared.root_system.Roots.{Roots}
+use Rattle.bmp_weyl.specs.declared.elem.Elem.{Elem}
+use Rattle.bmp_hecke.specs.Laurents.{Laurent}
+use Rattle.bmp_kl.specs.Tables.{IsTable}
+use Rattle.bmp_kl.specs.IntervalBars.{bars_of}
+use Rattle.bmp_kl.specs.Filled.{HasTooBig}
 use Rattle.bmp_graph.specs.Graph.{Graph}
 use Rattle.bmp_cert.specs.CertGrammar.{cert, cert_text, IsWellFormed}
 use Rattle.bmp_cert.specs.JobGrammar.{job, job_text, IsWellFormedJob}
 use Rattle.bmp_cert.specs.Counts.{written_by}
-use Rattle.bmp_cert.specs.JobGraphs.{IsJobGraph}
+use Rattle.bmp_cert.specs.JobGraphs.{IsJobGraph, IsJobInterval}
 use Rattle.bmp_cert.specs.JobRules.{graph_rules, rules, KeepsAll, IsFirstFault}
 use Rattle.bmp_check.specs.declared.refusal.Refusal.{Refusal}
 use Rattle.bmp_check.specs.Refusals.{refusal_text}
@@ -39,11 +52,12 @@ use Rattle.bmp_check.specs.Verdicts.{Passes, IsFirstRefusal}
 use Rattle.bmp_report.specs.FaultLines.{text_fault_line, job_fault_line}
 use Rattle.bmp_report.specs.GraphText.{graph_text, gkm_text}
 use Rattle.bmp_report.specs.RankLines.{cert_rank_lines}
+use Rattle.bmp_report.specs.TableText.{IsKlText, limit_line}
 use Rattle.bmp_program.specs.CommandLine.{asked}
 use Rattle.bmp_program.specs.declared.words.CommandWord.{CommandWord}
-use Rattle.bmp_program.specs.declared.words.CommandWord.TheVariants.{Check, Graph as GraphCommand, Gkm as GkmCommand}
+use Rattle.bmp_program.specs.declared.words.CommandWord.TheVariants.{Check, Graph as GraphCommand, Gkm as GkmCommand, Kl as KlCommand}
 use Rattle.bmp_program.specs.declared.status.Status.{Status}
-use Rattle.bmp_program.specs.declared.status.Status.TheVariants.{Done, Refused, BadText, BadJob, GkmFailed, TooLong, Usage}
+use Rattle.bmp_program.specs.declared.status.Status.TheVariants.{Done, Refused, BadText, BadJob, GkmFailed, TooLong, TableLimit, Usage}
 
 abbrev pub read_fault_line : List ℕ
 read_fault_line = codes "read fault\n"
@@ -102,6 +116,25 @@ GkmReport j GkmFailed text = JobReport j GkmFailed text
 GkmReport j Done text = KeepsAll rules j × ((g : Graph) × IsJobGraph j g × (text ≡ gkm_text g))
 GkmReport j _ text = ⊥
 
+abbrev pub table_limit : ℕ
+table_limit = 1000000
+
+abbrev pub TableReport : Roots → List Elem → Status → List ℕ → Type 0
+TableReport roots vertices Done text =
+    (h : ℕ → Laurent) × ((q : ℕ → Laurent) ×
+    IsTable (length vertices) (bars_of (matrix_of roots) (positive_roots_of roots) vertices) h q ×
+    ((x : ℕ) (e : ℤ) → x < length vertices → unsigned_abs (h x e) ≤ table_limit) × IsKlText (length vertices) h q text)
+TableReport roots vertices TableLimit text =
+    (x : ℕ) × HasTooBig (matrix_of roots) (positive_roots_of roots) vertices table_limit x × (text ≡ limit_line x)
+TableReport roots vertices _ text = ⊥
+
+-- as with `graph`, the rules of the graph alone decide on it
+abbrev pub KlReport : Job → Status → List ℕ → Type 0
+KlReport j BadJob text = JobReport j BadJob text
+KlReport j status text =
+    KeepsAll graph_rules j × ((vertices : List Elem) × (of : IsJobInterval j vertices) ×
+    TableReport of.roots vertices status text)
+
 -- the text of no job, with the first fault in reading order, or the text of one
 abbrev pub JobTextReport : (Job → Status → List ℕ → Type 0) → List ℕ → Status → List ℕ → Type 0
 JobTextReport report input BadText text = (fault : TextFault) × (whole job input ≡ Err fault) ×
@@ -112,6 +145,7 @@ abbrev pub TextReport : CommandWord → List ℕ → Status → List ℕ → Typ
 TextReport Check input status text = CertTextReport input status text
 TextReport GraphCommand input status text = JobTextReport GraphReport input status text
 TextReport GkmCommand input status text = JobTextReport GkmReport input status text
+TextReport KlCommand input status text = JobTextReport KlReport input status text
 
 unfoldable pub InputReport : CommandWord → List ℕ → Status → List ℕ → Type 0
 InputReport command input TooLong text = (input_limit < length input) × (text ≡ codes "input too long\n")

@@ -2,7 +2,7 @@
 --   status_number s   the number of the status s
 use Rattle.std.specs.Prelude.{ℕ}
 use Rattle.bmp_program.specs.declared.status.Status.{Status}
-use Rattle.bmp_program.specs.declared.status.Status.TheVariants.{Done, Refused, BadText, BadJob, GkmFailed, ReadFault, WriteFault, NoMemory, TooLong, Usage}
+use Rattle.bmp_program.specs.declared.status.Status.TheVariants.{Done, Refused, BadText, BadJob, GkmFailed, ReadFault, WriteFault, NoMemory, TooLong, TableLimit, Usage}
 
 abbrev pub status_number : Status → ℕ
 status_number Done = 0
@@ -14,4 +14,5 @@ status_number ReadFault = 5
 status_number WriteFault = 6
 status_number NoMemory = 7
 status_number TooLong = 8
+status_number TableLimit = 9
 status_number Usage = 64

@@ -8,6 +8,7 @@ use crate::Status;
 use crate::answer::{Answer, fixed};
 use crate::check::report_check;
 use crate::job_answer::{report_gkm, report_graph};
+use crate::table_answer::report_kl;
 use crate::words::{CommandWord, Request};
 use bmp_ports::{READ_LIMIT, ReadError, Source, read_all};
 use std::alloc::{AllocError, Global};
@@ -29,6 +30,7 @@ fn report_on(
         CommandWord::Check => report_check(rt, alloc, input, request.workers),
         CommandWord::Graph => report_graph(alloc, input),
         CommandWord::Gkm => report_gkm(alloc, input),
+        CommandWord::Kl => report_kl(alloc, input),
     }
 }
 

@@ -8,6 +8,7 @@ mod job_answer;
 pub mod laws;
 mod program;
 mod status;
+mod table_answer;
 mod words;
 
 pub use program::run;

@@ -6,8 +6,8 @@ ghost use Rattle.bmp_program.specs.Statuses.{status_number};
 use std::process::ExitCode;
 
 /// How a run of the program ended. Where several would fit, the one that comes first in this order counts: `Usage`,
-/// `ReadFault`, `TooLong`, `BadText`, `BadJob`, `GkmFailed`, `Refused`, and last `WriteFault`. `NoMemory` may come
-/// anywhere.
+/// `ReadFault`, `TooLong`, `BadText`, `BadJob`, `GkmFailed`, `Refused`, `TableLimit`, and last `WriteFault`. `NoMemory`
+/// may come anywhere.
 #[derive(Clone, Copy, Debug, PartialEq, Eq)]
 pub enum Status {
     /// All was done and written.
@@ -28,6 +28,8 @@ pub enum Status {
     NoMemory,
     /// The input is longer than the limit.
     TooLong,
+    /// A coefficient of the table is larger than the limit.
+    TableLimit,
     /// The words are no command of the program.
     Usage,
 }
@@ -47,6 +49,7 @@ impl Status {
             Status::WriteFault => 6,
             Status::NoMemory => 7,
             Status::TooLong => 8,
+            Status::TableLimit => 9,
             Status::Usage => 64,
         }
     }

@@ -18,6 +18,8 @@ pub enum CommandWord {
     Graph,
     /// Says whether the moment graph of a job has the GKM condition.
     Gkm,
+    /// Prints the Kazhdan-Lusztig table of a job.
+    Kl,
 }
 
 /// Why the words ask for nothing.
@@ -114,6 +116,7 @@ fn named_command(word: &str) -> Option<CommandWord>
         "check" => Some(CommandWord::Check),
         "graph" => Some(CommandWord::Graph),
         "gkm" => Some(CommandWord::Gkm),
+        "kl" => Some(CommandWord::Kl),
         _ => None,
     }
 }
@@ -123,7 +126,7 @@ fn takes_seed(command: CommandWord) -> bool
     ensures { result ≡ takes_seed command }
 {
     match command {
-        CommandWord::Check | CommandWord::Graph | CommandWord::Gkm => false,
+        CommandWord::Check | CommandWord::Graph | CommandWord::Gkm | CommandWord::Kl => false,
     }
 }
 

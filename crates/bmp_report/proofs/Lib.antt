@@ -1,3 +1,4 @@
 pub mod RankLemmas
 pub mod FaultLemmas
 pub mod MatrixLemmas
+pub mod TableLemmas

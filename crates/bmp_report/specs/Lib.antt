@@ -1,3 +1,4 @@
 pub mod RankLines
 pub mod FaultLines
 pub mod GraphText
+pub mod TableText

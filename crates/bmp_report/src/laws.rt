@@ -1,7 +1,13 @@
 //! The laws of the lines, each the contract of a function without a body.
 ghost use Rattle.bmp_report.specs.RankLines.{RanksHaveLines};
+ghost use Rattle.bmp_report.specs.TableText.{KlTextHasAll};
 
 /// The lines of a certificate's ranks are those of its own numbers of generators.
 pub fn ranks_have_lines()
     ensures { RanksHaveLines }
+{}
+
+/// The text of a table has all coefficients that aren't 0: the exponents are from 0 to 36.
+pub fn kl_text_has_all()
+    ensures { KlTextHasAll }
 {}

@@ -1,4 +1,4 @@
-//! The lines that the program prints: ranks, graphs, and the faults of texts and jobs.
+//! The lines that the program prints: ranks, graphs, tables, and the faults of texts and jobs.
 //!
 //! Each item is one line that ends with a line feed; numbers are canonical, and words are separated by
 //! single spaces. Each call gives exactly the text that `specs/` defines.
@@ -8,7 +8,9 @@ mod faults;
 mod graph;
 pub mod laws;
 mod ranks;
+mod table;
 
 pub use faults::{job_line, text_line};
 pub use graph::{gkm_text, graph_text};
 pub use ranks::ranks_text;
+pub use table::{kl_text, limit_line};
