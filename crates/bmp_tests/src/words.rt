@@ -62,6 +62,7 @@ fn statuses_have_numbers(rt: HostRuntime) {
         (Status::WriteFault, 6),
         (Status::NoMemory, 7),
         (Status::TooLong, 8),
+        (Status::TableLimit, 9),
         (Status::Usage, 64),
     ] {
         assert_eq!(rt; status.number(), number, "at {status:?}");
