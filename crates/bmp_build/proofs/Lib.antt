@@ -1,0 +1,6 @@
+pub mod AgreeLemmas
+pub mod HoldingSizes
+pub mod Lines
+pub mod PassingBlocks
+pub mod BuiltVertices
+pub mod AllPassing
