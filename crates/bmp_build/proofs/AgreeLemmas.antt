@@ -26,7 +26,7 @@ use Rattle.bmp_cover.specs.declared.fault.CoverFault.{CoverFault}
 
 module _ (size size' : ℕ → ℕ) (f g : ℕ → ℕ → ℕ) (n : ℕ) (sizes : (b : ℕ) → b < n → size b ≡ size' b)
     (each : (b i : ℕ) → b < n → i < size b → f b i ≡ g b i) where
-  in_same_block : (k : ℕ) → InBlock size n k → InBlock size' n k
+  abbrev in_same_block : (k : ℕ) → InBlock size n k → InBlock size' n k
   in_same_block k at = record {
     block = at.block;
     place = at.place;

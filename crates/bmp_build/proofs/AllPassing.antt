@@ -26,7 +26,7 @@ chosen_other b P Q is h = subst (λ (t : Bool). Chosen t P Q) (sym is) h
 -- ---- the greatest vertex
 
 top_lines : (degree : ℕ) → IsTop degree top_part
-top_lines degree = ((omega arith, (omega arith, omega arith), tt), refl)
+top_lines degree = ((omega arith, ((omega arith, omega arith), tt)), refl)
 
 module _ {A : Type 0} {G : Graph} {c : Written} (on : IsCheckableGraph G) (small : c.degree ≤ 6) (v : ℕ) (levels : 2 ≤ v)
     (are : AreBuilt A G c) where
@@ -91,5 +91,5 @@ module _ {A : Type 0} {G : Graph} {c : Written} (on : IsCheckableGraph G) (small
     },
   )
 
-pub built_parts_pass : (A : Type 0) → BuiltPartsPass A
-built_parts_pass A G v c on small version are = all_pass on small v version.0 are
+pub built_parts_pass : {A : Type 0} → BuiltPartsPass A
+built_parts_pass G v c on small version are = all_pass on small v version.0 are

@@ -181,7 +181,8 @@ module _ {A : Type 0} {G : Graph} {c : Written} (on : IsCheckableGraph G) (count
     where
       positive : (m k j : ℕ) → j < m * k → 0 < k
       positive m k j below = elim (cases_eq k 0) [
-        | inl zero ↦ (let none : m * k ≡ 0 = ap (λ z. m * z) zero ∙ omega arith in absurd (omega (arith, none, below)))
+        | inl empty ↦
+            (let none : m * k ≡ 0 = ap (λ z. m * z) empty ∙ omega arith in absurd (omega (arith, none, below)))
         | inr some ↦ omega arith
       ]
 
@@ -249,8 +250,11 @@ module _ {A : Type 0} {G : Graph} {c : Written} (on : IsCheckableGraph G) (count
         chain_upward (λ d b. IsBlock version (G.prime - 1) (λ e. count_by (λ a. eqb a e) part.degrees) d b) no_block
             part.blocks 0
             (λ d l.
-            block_lines (passes_at d (omega (arith, l, built.blocks))).fits version levels
-            (λ e. count_by (λ a. eqb a e) part.degrees) refl (at.held.blocks d no_block l)),
+            let same : d ≡ 0 + d = omega arith in
+            subst (λ f. IsBlock version (G.prime - 1) (λ e. count_by (λ a. eqb a e) part.degrees) f
+            (get_or part.blocks d no_block)) same
+            (block_lines (passes_at d (omega (arith, l, built.blocks))).fits version levels
+            (λ e. count_by (λ a. eqb a e) part.degrees) refl (at.held.blocks d no_block l))),
       );
     }
 

@@ -4,3 +4,4 @@ pub mod Lines
 pub mod PassingBlocks
 pub mod BuiltVertices
 pub mod AllPassing
+pub mod HeldLemmas

@@ -163,8 +163,7 @@ module _ {G : Graph} {F : SheafData} {x d count : ℕ} {b : DegreeBlock} (fits :
       (hold_both (pivot_sizes sizes b.kernel)
       (cover_sizes sizes b.cover ++ (kernel_sizes sizes b.kernel ++ last_size sizes)) (
         fits.kernel_fits.in_all,
-        need_from_below b.kernel.pivots (coordinates G F x d) fits.kernel_fits.pivots_below,
-        tt,
+        (need_from_below b.kernel.pivots (coordinates G F x d) fits.kernel_fits.pivots_below, tt),
       )
       (hold_both (cover_sizes sizes b.cover) (kernel_sizes sizes b.kernel ++ last_size sizes) cover_hold
       (hold_both (kernel_sizes sizes b.kernel) (last_size sizes) kernel_hold

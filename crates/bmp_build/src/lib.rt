@@ -3,6 +3,7 @@
 #![tactic(auto)]
 
 mod build;
+mod held;
 pub mod laws;
 
 pub use build::{build, build_graph};
