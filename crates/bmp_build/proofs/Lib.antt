@@ -5,3 +5,4 @@ pub mod PassingBlocks
 pub mod BuiltVertices
 pub mod AllPassing
 pub mod HeldLemmas
+pub mod Downward

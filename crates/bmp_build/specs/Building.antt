@@ -2,10 +2,10 @@
 --   Continues G D parts c       c has the degree bound D and a part for each vertex of G, and begins with these parts
 --   IsBuiltIn G D parts x       the part of x was built, whatever parts come behind these
 --   HoldsFamily .. s d f        f is, in memory, the family of degree d over a level, whatever parts come behind these
---   IsBuiltDown G D level low s parts families
+--   IsBuiltDown G D level low s parts members
 --                               the parts of the vertices of length at least `level` are there, and of others of length
---                               at least `low` alone; s is the sheaf that they write down, and the families are those
---                               over the level
+--                               at least `low` alone; s is the sheaf that they write down, and the members are the
+--                               families over the level
 --   IsLevelThere G k parts      the parts of all vertices of length at least k are there
 --   AreCounts families counts   the numbers of members
 --   has_block, block_at b x     the block of a vertex whose part is there
@@ -45,7 +45,7 @@ pub record HoldsFamily (G : Graph) (D level : ℕ) (parts : List VertexPart) (s 
       (family G (parts_sheaf G c) d (top_vertex G) (λ y. block_of c y d) level)
 
 pub record IsBuiltDown (G : Graph) (D level low : ℕ) (s : SheafState PrimeField) (parts : List VertexPart)
-    (families : List FamilyTable) : Type 0 where
+    (members : List FamilyTable) : Type 0 where
   pub graph : s.graph ≡ G
   pub degree : s.degree ≡ D
   pub stalks : s.stalks ≡ map cert_stalk parts
@@ -55,9 +55,9 @@ pub record IsBuiltDown (G : Graph) (D level low : ℕ) (s : SheafState PrimeFiel
   pub there : (y : ℕ) → y < vertex_count G → level ≤ length_at G y → vertex_count G ≤ y + length parts
   pub only : (y : ℕ) → y < vertex_count G → vertex_count G ≤ y + length parts → low ≤ length_at G y
   pub vertices : (x : ℕ) → x + 1 < vertex_count G → vertex_count G ≤ x + length parts → IsBuiltIn G D parts x
-  pub sized : length families ≡ D + 1
+  pub sized : length members ≡ D + 1
   pub families :
-      (d : ℕ) → d ≤ D → HoldsFamily G D level parts s d (slice_index_or families d no_family)
+      (d : ℕ) → d ≤ D → HoldsFamily G D level parts s d (slice_index_or members d no_family)
 
 pub record IsLevelThere (G : Graph) (k : ℕ) (parts : List VertexPart) : Type 0 where
   pub there : (y : ℕ) → y < vertex_count G → k ≤ length_at G y → vertex_count G ≤ y + length parts

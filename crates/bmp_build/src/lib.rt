@@ -2,8 +2,9 @@
 //! of the verdict fails.
 #![tactic(auto)]
 
-mod build;
 mod held;
 pub mod laws;
+mod level_parts;
+mod whole;
 
-pub use build::{build, build_graph};
+pub use whole::{build, build_graph};
