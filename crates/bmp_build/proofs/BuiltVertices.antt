@@ -155,6 +155,9 @@ module _ {A : Type 0} {G : Graph} {c : Written} (on : IsCheckableGraph G) (count
       (λ y high. family_size G (parts_sheaf G c) d (top_vertex G) (λ z. block_of c z d) (suc (length_at G x)) y)
       (passes_there agree (built_passes made))
 
+  pub has_blocks : length part.blocks ≡ c.degree + 1
+  has_blocks = built.blocks
+
   pub block_passes : (d : ℕ) → d ≤ c.degree → BlockPasses G Levels c x d
   block_passes d within = let passes = passes_at d within in (passes.fits.kernel, passes.cover)
 

@@ -31,6 +31,7 @@ use Rattle.bmp_check.specs.BlockData.{no_block, block_of, family_at, top_vertex}
 use Rattle.bmp_check.specs.PartsSheaf.{parts_sheaf}
 use Rattle.bmp_check.specs.Shaped.{cert_stalk}
 use Rattle.bmp_check.proofs.CheckableLemmas.{over_field}
+use Rattle.bmp_check.proofs.TupleCountLemmas.{not_greatest}
 use Rattle.bmp_stalk.specs.BuiltParts.{no_family, list_at, HaveMembers, IsBuiltPart}
 use Rattle.bmp_build.specs.BuiltGraphs.{IsHeldPart, IsBuiltAt, AreBuilt}
 use Rattle.bmp_build.specs.Building.{Continues, IsBuiltIn, HoldsFamily, IsBuiltDown, IsLevelThere, AreCounts}
@@ -119,13 +120,6 @@ module _
   size_there more d y below there =
       ap₂ (λ (H : Graph) (t : Stalk). stalk_count H.rank t.degrees d) h.graph (stalk_there more y below there)
 
-  not_top : (x : ℕ) → x < vertex_count G → length_at G x < length_at G (top_vertex G) → x + 1 < vertex_count G
-  not_top x below shorter = elim (cases_eq x (top_vertex G)) [
-    | inl last ↦ absurd
-        (let same : length_at G x ≡ length_at G (top_vertex G) = ap (length_at G) last in omega (arith, same, shorter))
-    | inr other ↦ omega (arith, below, other)
-  ]
-
   -- the numbers of their blocks are below the prime
   pub blocks_below : IsCheckableGraph G → (d : ℕ) → d ≤ D →
       BlocksAreBelow G (top_vertex G) (λ y. block_of filled y d)
@@ -135,7 +129,7 @@ module _
           subst (λ (p : VertexPart). All (λ v. ValuesBelow v G.prime) (get_or p.blocks d no_block).kernel.basis)
           (sym (part_missing x missing)) (All-nil (λ (v : List Entry). ValuesBelow v G.prime))
       | inr there ↦
-          let vertex = not_top x below shorter in
+          let vertex = not_greatest G x below shorter in
           (passes_at on continues.counted vertex ((h.vertices x vertex there).built filled continues) d
           within).fits.kernel_below.basis_below
     ];
@@ -144,7 +138,7 @@ module _
           subst (λ (p : VertexPart). All (λ v. ValuesBelow v G.prime) (get_or p.blocks d no_block).cover.covers)
           (sym (part_missing x missing)) (All-nil (λ (v : List Entry). ValuesBelow v G.prime))
       | inr there ↦
-          let vertex = not_top x below shorter in
+          let vertex = not_greatest G x below shorter in
           (passes_at on continues.counted vertex ((h.vertices x vertex there).built filled continues) d
           within).fits.covers_below
     ];

@@ -6,3 +6,4 @@ pub mod BuiltVertices
 pub mod AllPassing
 pub mod HeldLemmas
 pub mod Downward
+pub mod Extending

@@ -9,13 +9,16 @@
 --   IsLevelThere G k parts      the parts of all vertices of length at least k are there
 --   AreCounts families counts   the numbers of members
 --   has_block, block_at b x     the block of a vertex whose part is there
-use Rattle.std.specs.Prelude.{◌≡◌, ℕ, ◌+◌, ◌-◌, ◌<◌, ◌≤◌, nat_lt, Bool, ◌&&◌, List, length, map, take, slice_index, slice_index_or}
+--   IsBegun G D s               s has the stalk of the greatest vertex alone
+--   IsTopFamily s d f           f is the family of degree d over the greatest vertex
+--   HasEach P n fs              there are n families, and of each degree one with P
+use Rattle.std.specs.Prelude.{◌≡◌, ℕ, ◌+◌, ◌-◌, ◌<◌, ◌≤◌, nat_lt, Bool, ◌&&◌, List, [], ◌∷◌, length, map, take, slice_index, slice_index_or}
 use Rattle.bmp_field.specs.declared.prime.PrimeField.{PrimeField}
 use Rattle.bmp_graph.specs.Graph.{Graph, vertex_count, length_at}
 use Rattle.bmp_linear.specs.declared.blocks.DegreeBlock.{DegreeBlock}
-use Rattle.bmp_sheaf.specs.States.{SheafState}
+use Rattle.bmp_sheaf.specs.States.{SheafState, sheaf_of}
 use Rattle.bmp_levels.specs.Extensions.{HoldsLevel}
-use Rattle.bmp_levels.specs.Families.{family}
+use Rattle.bmp_levels.specs.Families.{top_family, family}
 use Rattle.bmp_levels.specs.Levels.{level_vertices}
 use Rattle.bmp_levels.specs.Lists.{SameList}
 use Rattle.bmp_levels.specs.Runs.{FamilyTable, list_of}
@@ -78,3 +81,18 @@ module _ (b : LevelParts) (x : ℕ) where
 
   abbrev pub block_at : DegreeBlock
   block_at = slice_index_or own.blocks b.degree no_block
+
+pub record IsBegun (G : Graph) (D : ℕ) (s : SheafState PrimeField) : Type 0 where
+  pub graph : s.graph ≡ G
+  pub degree : s.degree ≡ D
+  pub stalks : s.stalks ≡ cert_stalk top_part ∷ []
+
+pub record IsTopFamily (s : SheafState PrimeField) (d : ℕ) (f : FamilyTable) : Type 0 where
+  pub holds : HoldsLevel s (length_at s.graph (top_vertex s.graph)) d f
+  pub same :
+      SameList (level_vertices s.graph (length_at s.graph (top_vertex s.graph))) (list_of f)
+      (top_family s.graph (sheaf_of s) d (top_vertex s.graph))
+
+pub record HasEach (P : ℕ → FamilyTable → Type 0) (n : ℕ) (fs : List FamilyTable) : Type 0 where
+  pub sized : length fs ≡ n
+  pub each : (d : ℕ) → d < n → P d (slice_index_or fs d no_family)
