@@ -65,6 +65,21 @@ module _ {G : Graph} {D : ℕ} {parts : List VertexPart} where
             ∙ take_at parts (part ∷ []) i refl;
       }
 
+-- the stalk of a part that is there, and its size
+module _ {G : Graph} {D : ℕ} (s : SheafState PrimeField) {parts : List VertexPart} (graph : s.graph ≡ G)
+    (stalks : s.stalks ≡ map cert_stalk parts) where
+  pub stalk_in : {c : Written} → Continues G D parts c → (y : ℕ) → y < vertex_count G →
+      vertex_count G ≤ y + length parts → stalk_of s y ≡ cert_stalk (part_of c y)
+  stalk_in more y below there =
+      ap₂ (λ (l : List Stalk) (n : ℕ). get_or l (n - 1 - y) no_stalk) stalks (ap (λ (H : Graph). vertex_count H) graph)
+      ∙ get_or-map cert_stalk parts (vertex_count G - 1 - y) no_part
+      ∙ ap cert_stalk (sym (part_there more y below there))
+
+  pub size_in : {c : Written} → Continues G D parts c → (d y : ℕ) → y < vertex_count G →
+      vertex_count G ≤ y + length parts → stalk_size s.graph (sheaf_of s) d y ≡ stalk_size G (parts_sheaf G c) d y
+  size_in more d y below there =
+      ap₂ (λ (H : Graph) (t : Stalk). stalk_count H.rank t.degrees d) graph (stalk_in more y below there)
+
 -- ---- a state on the way
 
 module _
@@ -107,18 +122,9 @@ module _
       ∙ get_or-append_right parts rest (length parts) i no_part refl (omega (arith, missing))
       ∙ get_or-replicate (vertex_count G - length parts) (i - length parts) no_part no_part (omega (arith, missing))
 
-  -- the stalk of a part that is there
-  pub stalk_there : {c : Written} → Continues G D parts c → (y : ℕ) → y < vertex_count G →
-      vertex_count G ≤ y + length parts → stalk_of s y ≡ cert_stalk (part_of c y)
-  stalk_there more y below there =
-      ap₂ (λ (l : List Stalk) (n : ℕ). get_or l (n - 1 - y) no_stalk) h.stalks own_vertices
-      ∙ get_or-map cert_stalk parts (vertex_count G - 1 - y) no_part
-      ∙ ap cert_stalk (sym (part_there more y below there))
-
   pub size_there : {c : Written} → Continues G D parts c → (d y : ℕ) → y < vertex_count G →
       vertex_count G ≤ y + length parts → stalk_size s.graph (sheaf_of s) d y ≡ stalk_size G (parts_sheaf G c) d y
-  size_there more d y below there =
-      ap₂ (λ (H : Graph) (t : Stalk). stalk_count H.rank t.degrees d) h.graph (stalk_there more y below there)
+  size_there = size_in s h.graph h.stalks
 
   -- the numbers of their blocks are below the prime
   pub blocks_below : IsCheckableGraph G → (d : ℕ) → d ≤ D →

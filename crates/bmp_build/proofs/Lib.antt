@@ -7,3 +7,4 @@ pub mod AllPassing
 pub mod HeldLemmas
 pub mod Downward
 pub mod Extending
+pub mod Beginning

@@ -4,7 +4,9 @@
 
 mod held;
 pub mod laws;
+mod level;
 mod level_parts;
+mod start;
 mod whole;
 
 pub use whole::{build, build_graph};

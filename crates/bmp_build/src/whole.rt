@@ -8,6 +8,8 @@ ghost use Rattle.bmp_cert.specs.Versions.{IsVersionOf};
 ghost use Rattle.bmp_check.specs.Accepted.{IsCheckableGraph};
 ghost use Rattle.bmp_check.specs.Verdicts.{Passes};
 
+use crate::level::{build_level, counts_of, extend_families};
+use crate::start::{begun, top_families, top_part};
 use bmp_cert::{Accepted, Cert, Parts};
 use bmp_graph::MomentGraph;
 use std::alloc::{AllocError, Global};
@@ -34,7 +36,20 @@ pub fn build_graph(
     ensures formed { IfOk result (HavePartLines version (graph.now.prime - 1) degree) }
     ensures passes { IfOk result (λ parts. Passes graph.now version (record { degree = degree; parts = parts })) }
 {
-    Err(AllocError)
+    let _workers = workers;
+    let top = top_part(alloc)?;
+    let mut sheaf = begun(alloc, graph, degree, &top)?;
+    let mut families = top_families(alloc, &sheaf)?;
+    let mut parts = Parts::new(alloc);
+    parts.push(top)?;
+    let most = graph.length(graph.vertices() - 1);
+    'levels: for step in 0..most {
+        let k = most - 1 - step;
+        let counts = counts_of(alloc, &families)?;
+        build_level(alloc, &mut sheaf, k, &families, &counts, &mut parts)?;
+        extend_families(&sheaf, k, &parts, &mut families)?;
+    }
+    Ok(parts)
 }
 
 /// Builds a certificate by levels of an accepted job, of the version 2 where its lattice is plain, and else of 3. It is
