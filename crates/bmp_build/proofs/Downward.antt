@@ -173,6 +173,52 @@ module _ {G : Graph} {D : ℕ} {s : SheafState PrimeField} {parts : List VertexP
             });
       }
 
+-- ---- to the next level
+
+module _ {G : Graph} {D k : ℕ} {s : SheafState PrimeField} {parts : List VertexPart} {families : List FamilyTable} where
+  -- the families over the longer vertices are there, and no vertex of length k
+  pub level_begun : {level : ℕ} → IsBuiltDown G D level level s parts families → level ≡ suc k →
+      IsBuiltDown s.graph s.degree (suc k) k s parts families
+  level_begun {level = level} h is = own_down (record {
+    graph = h.graph;
+    degree = h.degree;
+    stalks = h.stalks;
+    some = h.some;
+    few = h.few;
+    top = h.top;
+    there = λ y below long. h.there y below (omega (arith, long, is));
+    only = λ y below there. (let long = h.only y below there in omega (arith, long, is));
+    vertices = h.vertices;
+    sized = h.sized;
+    families = subst (λ n. (d : ℕ) → d ≤ D → HoldsFamily G D n parts s d (get_or families d no_family)) is h.families;
+  })
+
+  -- where the next vertex has another length, all of length k are there
+  pub level_there : IsGraph G → IsBuiltDown G D (suc k) k s parts families →
+      ((length s.stalks < vertex_count s.graph) × (length_at s.graph (next_vertex s) ≡ k) → ⊥) →
+      IsLevelThere G k parts
+  level_there is h none = record {
+    there = λ y below long. elim (cases_lt (y + length parts) (vertex_count G)) [
+      | inr there ↦ there
+      | inl missing ↦
+          let x = vertex_count G - 1 - length parts in
+          let next : next_vertex s ≡ vertex_count G - 1 - length parts = omega (arith, pushed h, own_vertices h) in
+          let rises : length_at G y ≤ length_at G (vertex_count G - 1 - length parts) =
+          is.lengths_rise y x (omega (arith, missing)) (omega (arith, missing)) in
+          elim (cases_lt k (length_at G (vertex_count G - 1 - length parts))) [
+            | inl longer ↦ absurd
+                (let there = h.there x (omega (arith, missing)) longer in omega (arith, there, missing))
+            | inr short ↦
+                let here : length_at G (vertex_count G - 1 - length parts) ≡ k = omega (arith, rises, long, short) in
+                absurd (none (
+                  omega (arith, missing, pushed h, own_vertices h),
+                  subst (λ (H : Graph). length_at H (next_vertex s) ≡ k) (sym h.graph)
+                      (subst (λ z. length_at G z ≡ k) (sym next) here),
+                ))
+          ]
+    ];
+  }
+
 -- ---- one vertex more, of the length below the level
 
 module _

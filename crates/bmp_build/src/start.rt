@@ -1,7 +1,9 @@
 //! The greatest vertex: its part, its stalk, and the first families.
-ghost use Rattle.std.specs.Prelude.{◌≡◌, ◌+◌, ◌≤◌, [], IfOk, OnOk};
-ghost use Rattle.bmp_graph.specs.Graph.{IsGraph};
-ghost use Rattle.bmp_sheaf.specs.States.{with_stalk};
+ghost use Rattle.std.specs.Prelude.{◌≡◌, ◌+◌, ◌<◌, ◌≤◌, All, length, IfOk, OnOk};
+ghost use Rattle.bmp_linear.specs.SparseVectors.{ValuesBelow};
+ghost use Rattle.bmp_graph.specs.Graph.{vertex_count};
+ghost use Rattle.bmp_sheaf.specs.States.{next_vertex, with_stalk};
+ghost use Rattle.bmp_sheaf.specs.StalkFaults.{IsStalk};
 ghost use Rattle.bmp_levels.specs.Extensions.{HasTop};
 ghost use Rattle.bmp_check.specs.Accepted.{IsCheckableGraph};
 ghost use Rattle.bmp_check.specs.Shaped.{cert_stalk};
@@ -30,12 +32,12 @@ pub(crate) fn top_part(alloc: Global) -> Result<VertexPart, AllocError>
     })
 }
 
-/// Adds the stalk of the greatest vertex to a sheaf of which no stalk is there. Since it is one, memory alone can be
-/// wanting.
-fn push_top(sheaf: &mut Sheaf<PrimeField>, part: &VertexPart) -> Result<(), AllocError>
-    requires graph { IsGraph sheaf.old.graph }
-    requires none { sheaf.old.stalks ≡ [] }
-    requires top { part.now ≡ top_part }
+/// Adds the stalk that a part writes down, at the greatest vertex whose stalk isn't there. Since it is one, memory
+/// alone can be wanting.
+fn push_part(sheaf: &mut Sheaf<PrimeField>, part: &VertexPart) -> Result<(), AllocError>
+    requires left { length sheaf.old.stalks < vertex_count sheaf.old.graph }
+    requires values { All (λ v. ValuesBelow v sheaf.old.graph.prime) part.now.lifts }
+    requires stalk { IsStalk sheaf.old (next_vertex sheaf.old) part.now.degrees part.now.lifts }
     ensures { OnOk result (sheaf.new ≡ with_stalk sheaf.old (cert_stalk part.now)) }
 {
     match sheaf.push_vertex(part.degrees.as_slice(), part.lifts.as_slice()) {
@@ -62,7 +64,7 @@ pub(crate) fn begun(
         Err(_) => unreachable!(),
     };
     let mut sheaf = Sheaf::new(alloc, graph, field, degree)?;
-    push_top(&mut sheaf, part)?;
+    push_part(&mut sheaf, part)?;
     Ok(sheaf)
 }
 

@@ -1,5 +1,5 @@
 use Rattle.std.proofs.Common.{suc, ◌+◌}
-use Rattle.bmp_build.proofs.Extending.{IsTurned, OldFamily, NextFamily}
+use Rattle.bmp_build.proofs.Extending.{IsTurned}
 use Rattle.bmp_build.specs.Building.{HoldsFamily}
 use Rattle.bmp_build.proofs.level.extend_families.Given as goal
 
