@@ -25,7 +25,7 @@ chosen_other b P Q is h = subst (λ (t : Bool). Chosen t P Q) (sym is) h
 
 -- ---- the greatest vertex
 
-top_lines : (degree : ℕ) → IsTop degree top_part
+pub top_lines : (degree : ℕ) → IsTop degree top_part
 top_lines degree = ((omega arith, ((omega arith, omega arith), tt)), refl)
 
 module _ {A : Type 0} {G : Graph} {c : Written} (on : IsCheckableGraph G) (small : c.degree ≤ 6) (v : ℕ) (levels : 2 ≤ v)

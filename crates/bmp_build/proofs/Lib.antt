@@ -8,3 +8,4 @@ pub mod HeldLemmas
 pub mod Downward
 pub mod Extending
 pub mod Beginning
+pub mod Accepting
