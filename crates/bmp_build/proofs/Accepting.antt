@@ -1,5 +1,5 @@
 -- The certificate of an accepted job: what can be built on its graph, and when it is well formed.
-use Rattle.std.proofs.Common.{◌≡◌, ℕ, ◌-◌, ◌≤◌, [], ◌∷◌, refl, subst, arith}
+use Rattle.std.proofs.Common.{◌≡◌, ℕ, ◌-◌, ◌≤◌, [], ◌∷◌, refl, arith}
 use Rattle.std.proofs.Math.Logic.{∥∥₁_elim}
 use native.Mathlib.Nat.{ℕ_set}
 use Rattle.bmp_graph.specs.Graph.{Graph}

@@ -1,9 +1,9 @@
 -- What is said of a vertex rests on its own stalk, on its lifts and on the degrees at the upper ends of its edges.
-use Rattle.std.proofs.Common.{◌≡◌, ℕ, ◌+◌, ◌-◌, ◌*◌, ◌%◌, ◌<◌, List, cond, eqb, take, sym, ap, ap₂, subst, ◌∙◌, inl, inr, arith, ne_eqb, length}
+use Rattle.std.proofs.Common.{◌≡◌, ℕ, ◌+◌, ◌-◌, ◌*◌, ◌%◌, ◌<◌, List, cond, eqb, take, sym, ap, subst, ◌∙◌, inl, inr, arith, ne_eqb, length}
 use Rattle.std.specs.Prelude.{count_by, slice_index}
 use Rattle.std.proofs.lemmas.Bool.{cases_eq, cond-false}
 use Rattle.bmp_math.specs.Blocks.{block_start, joined}
-use Rattle.bmp_math.specs.Matrices.{Matrix, SameMatrix, combination}
+use Rattle.bmp_math.specs.Matrices.{SameMatrix, combination}
 use Rattle.bmp_math.specs.Sums.{sum_below}
 use Rattle.bmp_math.specs.Vectors.{unit}
 use Rattle.bmp_math.proofs.BlockLemmas.{InBlock, block_of, joined_is}

@@ -1,5 +1,5 @@
 -- Parts that were built have lines, and no comparison fails.
-use Rattle.std.proofs.Common.{◌≡◌, ◌≢◌, ℕ, ◌+◌, ◌-◌, ◌<◌, ◌≤◌, Bool, true, false, eqb, List, [], ◌∷◌, length, get_or, None, refl, sym, ap, subst, ◌∙◌, inl, inr, arith, eq-eqb, ne_eqb}
+use Rattle.std.proofs.Common.{◌≡◌, ℕ, ◌+◌, ◌-◌, ◌<◌, ◌≤◌, Bool, true, false, eqb, [], ◌∷◌, length, get_or, None, refl, sym, ap, subst, ◌∙◌, inl, inr, arith, eq-eqb, ne_eqb}
 use Rattle.std.proofs.lemmas.Bool.{cases_eq, cond-false}
 use Rattle.bmp_text.specs.Printing.{Chosen}
 use Rattle.bmp_graph.specs.Graph.{Graph, vertex_count}
@@ -9,7 +9,6 @@ use Rattle.bmp_cert.specs.CertGrammar.{IsTop, IsPart, IsPartAt, HavePartLines}
 use Rattle.bmp_check.specs.declared.method.Method.{Method}
 use Rattle.bmp_check.specs.declared.method.Method.TheVariants.{Spaces, Levels}
 use Rattle.bmp_check.specs.Accepted.{IsCheckableGraph}
-use Rattle.bmp_check.specs.BlockData.{top_vertex}
 use Rattle.bmp_check.specs.Comparisons.{first_failure}
 use Rattle.bmp_check.specs.Methods.{method_of}
 use Rattle.bmp_check.specs.Verdicts.{top_comparison, TopPasses, ShapePasses, BlocksPass, Passes}

@@ -1,5 +1,5 @@
 -- The greatest vertex alone: the first families, and the state that the way down begins with.
-use Rattle.std.proofs.Common.{◌≡◌, ℕ, ◌+◌, ◌-◌, ◌<◌, ◌≤◌, cond, eqb, List, [], ◌∷◌, ◌++◌, length, get_or, map, refl, sym, ap, ap₂, subst, ◌∙◌, inl, inr, arith, length-append, ne_eqb}
+use Rattle.std.proofs.Common.{◌≡◌, ℕ, ◌+◌, ◌-◌, ◌<◌, ◌≤◌, cond, eqb, List, [], ◌∷◌, ◌++◌, length, get_or, refl, sym, ap, ap₂, subst, ◌∙◌, inl, inr, arith, length-append, ne_eqb}
 use Rattle.std.proofs.lemmas.Bool.{cases_eq, cond-false}
 use Rattle.std.proofs.lemmas.List.{get_or_append_left, get_or_push}
 use Rattle.bmp_math.proofs.SumLemmas.{sum_below_same, sum_below-zeros}
@@ -7,7 +7,7 @@ use Rattle.bmp_field.specs.declared.prime.PrimeField.{PrimeField}
 use Rattle.bmp_graph.specs.Graph.{Graph, IsGraph, vertex_count, edge_count, length_at, lower, upper}
 use Rattle.bmp_graph.proofs.GraphLemmas.{edge_rises}
 use Rattle.bmp_sheaf.specs.Coordinates.{stalk_count}
-use Rattle.bmp_sheaf.specs.States.{Stalk, no_stalk, SheafState, stalk_of, next_vertex, sheaf_of}
+use Rattle.bmp_sheaf.specs.States.{Stalk, no_stalk, SheafState, next_vertex, sheaf_of}
 use Rattle.bmp_sheaf.specs.StalkFaults.{IsStalk}
 use Rattle.bmp_sheaf.specs.Written.{up_count}
 use Rattle.bmp_cover.specs.BradenMacPherson.{IsTopVertex}
@@ -17,15 +17,12 @@ use Rattle.bmp_levels.specs.Levels.{level_vertices}
 use Rattle.bmp_levels.specs.Lists.{SameList}
 use Rattle.bmp_levels.specs.Runs.{FamilyTable, list_of}
 use Rattle.bmp_levels.proofs.Families.{family_top}
-use Rattle.bmp_cert.specs.declared.cert.VertexPart.{VertexPart}
-use Rattle.bmp_cert.specs.Counts.{Written}
 use Rattle.bmp_check.specs.Accepted.{IsCheckableGraph}
 use Rattle.bmp_check.specs.BlockData.{block_of, top_vertex}
 use Rattle.bmp_check.specs.PartsSheaf.{parts_sheaf}
-use Rattle.bmp_check.specs.Shaped.{cert_stalk}
 use Rattle.bmp_stalk.specs.BuiltParts.{no_family}
 use Rattle.bmp_build.specs.BuiltGraphs.{top_part}
-use Rattle.bmp_build.specs.Building.{Continues, HoldsFamily, IsBuiltDown, IsBegun, IsTopFamily, HasEach}
+use Rattle.bmp_build.specs.Building.{HoldsFamily, IsBuiltDown, IsBegun, IsTopFamily, HasEach}
 use Rattle.bmp_build.proofs.Downward.{stalk_in}
 
 -- ---- families one behind the other

@@ -1,25 +1,23 @@
 -- What was built at one vertex, of the sheaf that all parts write down: its blocks pass, its sizes hold, and it has lines.
-use Rattle.std.proofs.Common.{◌≡◌, ℕ, zero, suc, ◌+◌, ◌-◌, ◌*◌, ◌/◌, ◌%◌, ◌<◌, ◌≤◌, ◌^◌, eqb, List, [], ◌∷◌, ◌++◌, length, get_or, take, map, None, refl, sym, ap, ap₂, subst, ◌∙◌, inl, inr, arith}
+use Rattle.std.proofs.Common.{◌≡◌, ℕ, suc, ◌+◌, ◌-◌, ◌*◌, ◌/◌, ◌%◌, ◌<◌, ◌≤◌, ◌^◌, eqb, List, [], ◌∷◌, ◌++◌, length, get_or, take, map, refl, sym, ap, ap₂, subst, ◌∙◌, inl, inr, arith}
 use Rattle.std.specs.Prelude.{All, count_by}
 use Rattle.std.proofs.Math.ListN.{get_or-map}
 use Rattle.std.proofs.lemmas.Bool.{cases_eq, cases_lt}
 use Rattle.std.proofs.lemmas.List.{length-map, length-take-le, get_or-take, take_more, map-append, get_or_default, get_or_past}
 use Rattle.std.proofs.lemmas.List.Elements.{All-get_or, All-weaker}
 use Rattle.std.proofs.lemmas.Nat.{div_below}
-use Rattle.bmp_graph.specs.Graph.{Graph, IsGraph, vertex_count, edge_count, length_at, lower, upper}
+use Rattle.bmp_graph.specs.Graph.{Graph, vertex_count, edge_count, length_at, lower, upper}
 use Rattle.bmp_graph.proofs.GraphLemmas.{edge_rises, IsAbove-higher}
 use Rattle.bmp_linear.specs.declared.vector.Entry.{Entry}
-use Rattle.bmp_linear.specs.SparseVectors.{FitsBelow, ValuesBelow}
+use Rattle.bmp_linear.specs.SparseVectors.{FitsBelow}
 use Rattle.bmp_poly.proofs.Scanning.{count_small}
-use Rattle.bmp_sheaf.specs.Sheaves.{SheafData}
 use Rattle.bmp_sheaf.specs.Coordinates.{stalk_count}
 use Rattle.bmp_sheaf.specs.Written.{first_edge, up_count}
 use Rattle.bmp_sheaf.specs.States.{Stalk, no_stalk, SheafState, stalk_of, next_vertex, with_stalk, sheaf_of}
-use Rattle.bmp_sheaf.specs.StalkFaults.{IsStalk, LiftFits, lift_room}
+use Rattle.bmp_sheaf.specs.StalkFaults.{IsStalk}
 use Rattle.bmp_sheaf.proofs.Agreement.{written_agree}
 use Rattle.bmp_sheaf.proofs.UpEdges.{up_range_of}
 use Rattle.bmp_sections.specs.Sections.{above}
-use Rattle.bmp_levels.specs.Families.{stalk_size}
 use Rattle.bmp_levels.specs.Levels.{level_vertices}
 use Rattle.bmp_levels.specs.Lists.{SameList}
 use Rattle.bmp_levels.proofs.Families.{family_size}
@@ -40,9 +38,9 @@ use Rattle.bmp_check.proofs.ShapeLemmas.{sizes_first, sizes_later}
 use Rattle.bmp_stalk.specs.BuiltParts.{IsBuiltPart, IsBuiltBlock}
 use Rattle.bmp_build.specs.BuiltGraphs.{top_part, IsBuiltAt, AreBuilt}
 use Rattle.bmp_build.proofs.AgreeLemmas.{AgreeAt}
-use Rattle.bmp_build.proofs.HoldingSizes.{Holds, AllHold, none_fails, hold_both, listed_hold, need_from_fits}
+use Rattle.bmp_build.proofs.HoldingSizes.{AllHold, none_fails, hold_both, listed_hold, need_from_fits}
 use Rattle.bmp_build.proofs.Lines.{chain_upward, vectors_lines, degrees_lines}
-use Rattle.bmp_build.proofs.PassingBlocks.{PassesAt, coordinates, built_passes, passes_there, passes_for, sizes_hold, block_lines}
+use Rattle.bmp_build.proofs.PassingBlocks.{PassesAt, built_passes, passes_there, passes_for, sizes_hold, block_lines}
 
 module _ {A : Type 0} {G : Graph} {c : Written} (on : IsCheckableGraph G) (counted : length c.parts ≡ vertex_count G)
     {x : ℕ} (vertex : x + 1 < vertex_count G) (at : IsBuiltAt A G c x) where

@@ -3,8 +3,8 @@
 use Rattle.std.proofs.Common.{◌≡◌, ℕ, suc, ◌+◌, ◌-◌, ◌<◌, ◌≤◌, List, [], ◌∷◌, ◌++◌, length, get_or, take, map, replicate, refl, sym, ap, ap₂, subst, ◌∙◌, inl, inr, arith}
 use Rattle.std.specs.Prelude.{All}
 use Rattle.std.proofs.Math.ListN.{get_or-map}
-use Rattle.std.proofs.lemmas.Bool.{cases_eq, cases_lt}
-use Rattle.std.proofs.lemmas.List.{length-map, length-append, length-replicate, length_push, length-take-le, get_or-take, get_or_push, get_or_append_left, get_or-append_right, get_or-replicate, get_or_past, take_at, take_all, take_more, map-append}
+use Rattle.std.proofs.lemmas.Bool.{cases_lt}
+use Rattle.std.proofs.lemmas.List.{length-map, length-append, length-replicate, length_push, length-take-le, get_or-take, get_or_push, get_or_append_left, get_or-append_right, get_or-replicate, take_at, take_all, take_more, map-append}
 use Rattle.std.proofs.lemmas.List.Elements.{All-nil}
 use Rattle.bmp_field.specs.declared.prime.PrimeField.{PrimeField}
 use Rattle.bmp_graph.specs.Graph.{Graph, IsGraph, vertex_count, length_at}
@@ -12,11 +12,8 @@ use Rattle.bmp_graph.proofs.GraphLemmas.{IsAbove-higher}
 use Rattle.bmp_linear.specs.declared.vector.Entry.{Entry}
 use Rattle.bmp_linear.specs.SparseVectors.{ValuesBelow}
 use Rattle.bmp_sheaf.specs.Coordinates.{stalk_count}
-use Rattle.bmp_sheaf.specs.States.{Stalk, no_stalk, SheafState, stalk_of, next_vertex, with_stalk, sheaf_of}
-use Rattle.bmp_sections.specs.Numbers.{is_above}
-use Rattle.bmp_sections.specs.TupleLists.{TupleList}
+use Rattle.bmp_sheaf.specs.States.{Stalk, no_stalk, SheafState, stalk_of, next_vertex, sheaf_of}
 use Rattle.bmp_sections.proofs.AboveLemmas.{above_from_test}
-use Rattle.bmp_cover.specs.CoverInputs.{HasTuples}
 use Rattle.bmp_levels.specs.Extensions.{HoldsLevel}
 use Rattle.bmp_levels.specs.Families.{family, stalk_size}
 use Rattle.bmp_levels.specs.Levels.{level_vertices}
@@ -27,13 +24,13 @@ use Rattle.bmp_levels.proofs.Below.{families_are_below}
 use Rattle.bmp_cert.specs.declared.cert.VertexPart.{VertexPart}
 use Rattle.bmp_cert.specs.Counts.{Written, no_part, part_of}
 use Rattle.bmp_check.specs.Accepted.{IsCheckableGraph}
-use Rattle.bmp_check.specs.BlockData.{no_block, block_of, family_at, top_vertex}
+use Rattle.bmp_check.specs.BlockData.{no_block, block_of, top_vertex}
 use Rattle.bmp_check.specs.PartsSheaf.{parts_sheaf}
 use Rattle.bmp_check.specs.Shaped.{cert_stalk}
 use Rattle.bmp_check.proofs.CheckableLemmas.{over_field}
 use Rattle.bmp_check.proofs.TupleCountLemmas.{not_greatest}
 use Rattle.bmp_stalk.specs.BuiltParts.{no_family, list_at, HaveMembers, IsBuiltPart}
-use Rattle.bmp_build.specs.BuiltGraphs.{IsHeldPart, IsBuiltAt, AreBuilt}
+use Rattle.bmp_build.specs.BuiltGraphs.{IsHeldPart, AreBuilt}
 use Rattle.bmp_build.specs.Building.{Continues, IsBuiltIn, HoldsFamily, IsBuiltDown, IsLevelThere, AreCounts}
 use Rattle.bmp_build.proofs.BuiltVertices.{passes_at}
 

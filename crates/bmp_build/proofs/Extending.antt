@@ -1,6 +1,6 @@
 -- From one level to the next: the blocks of the vertices of one length fit the families over the longer ones, and what
 -- extends these are the families over the level.
-use Rattle.std.proofs.Common.{◌≡◌, ℕ, suc, ◌+◌, ◌-◌, ◌<◌, ◌≤◌, ◌^◌, ltb, ◌&&◌, IsTrue, List, [], ◌∷◌, ◌++◌, length, get_or, refl, sym, ap, ap₂, subst, ◌∙◌, inl, inr, arith, length-append}
+use Rattle.std.proofs.Common.{◌≡◌, ℕ, suc, ◌+◌, ◌-◌, ◌<◌, ◌≤◌, ◌^◌, ltb, ◌&&◌, IsTrue, List, [], ◌∷◌, ◌++◌, length, get_or, sym, ap, ap₂, subst, ◌∙◌, inl, inr, arith}
 use Rattle.std.specs.Prelude.{All}
 use Rattle.std.specs.List.{remove}
 use Rattle.std.proofs.lemmas.Bool.{cases_eq, and_from, lt-ltb}
@@ -25,7 +25,7 @@ use Rattle.bmp_check.proofs.TupleCountLemmas.{not_greatest}
 use Rattle.bmp_stalk.specs.BuiltParts.{no_family}
 use Rattle.bmp_build.specs.declared.level_parts.LevelParts.{LevelParts}
 use Rattle.bmp_build.specs.BuiltGraphs.{IsBuiltAt}
-use Rattle.bmp_build.specs.Building.{Continues, HoldsFamily, IsBuiltDown, IsLevelThere, has_block, block_at, HasEach}
+use Rattle.bmp_build.specs.Building.{Continues, HoldsFamily, IsBuiltDown, IsLevelThere, has_block, block_at}
 use Rattle.bmp_build.proofs.BuiltVertices.{passes_at, has_blocks}
 use Rattle.bmp_build.proofs.Downward.{part_there, own_vertices, pushed, filled, continues, size_there}
 

@@ -1,10 +1,9 @@
 -- A block that fits and passes, of a sheaf and a list of tuples; what it keeps from one sheaf to one that agrees, and
 -- from one list to one with the same values; its sizes and its lines.
-use Rattle.std.proofs.Common.{◌≡◌, ℕ, suc, ◌+◌, ◌-◌, ◌<◌, ◌≤◌, ◌^◌, eqb, List, [], ◌∷◌, ◌++◌, length, refl, sym, ap, subst, ◌∙◌, arith}
+use Rattle.std.proofs.Common.{◌≡◌, ℕ, ◌-◌, ◌<◌, ◌≤◌, ◌^◌, eqb, [], ◌∷◌, ◌++◌, length, refl, sym, ap, subst, ◌∙◌, arith}
 use Rattle.std.specs.Prelude.{count_by, All}
 use Rattle.bmp_graph.specs.Graph.{Graph, IsAbove}
 use Rattle.bmp_linear.specs.declared.blocks.DegreeBlock.{DegreeBlock}
-use Rattle.bmp_linear.specs.declared.vector.Entry.{Entry}
 use Rattle.bmp_linear.specs.SparseVectors.{FitsBelow, ValuesBelow}
 use Rattle.bmp_linear.specs.Evidence.{EvidenceFits, EvidenceBelow}
 use Rattle.bmp_linear.specs.Faults.{AllPass}
@@ -25,7 +24,7 @@ use Rattle.bmp_levels.proofs.Comparing.{comparisons_agree}
 use Rattle.bmp_cert.specs.BlockGrammar.{IsBlock}
 use Rattle.bmp_check.specs.declared.sizes.BlockSizes.{BlockSizes}
 use Rattle.bmp_check.specs.declared.method.Method.TheVariants.{Levels}
-use Rattle.bmp_check.specs.Sizes.{is, each_at_most, limit, largest, pivot_sizes, kernel_sizes, cover_sizes, last_size, sizes_of_block}
+use Rattle.bmp_check.specs.Sizes.{is, each_at_most, pivot_sizes, kernel_sizes, cover_sizes, last_size, sizes_of_block}
 use Rattle.bmp_stalk.specs.BuiltParts.{IsBuiltBlock}
 use Rattle.bmp_build.specs.BuiltGraphs.{IsHeldBlock}
 use Rattle.bmp_build.proofs.AgreeLemmas.{AgreeAt, counts_agree, matrices_agree, comparisons_agree_at}

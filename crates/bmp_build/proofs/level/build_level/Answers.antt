@@ -1,6 +1,4 @@
-use Rattle.std.proofs.Common.{◌≡◌, ◌<◌, ◌++◌, ◌∷◌, [], suc, List, length, sym, subst, ◌∙◌, true≢false}
-use Rattle.bmp_graph.specs.Graph.{vertex_count, length_at}
-use Rattle.bmp_sheaf.specs.States.{next_vertex}
+use Rattle.std.proofs.Common.{suc, List, sym, subst, ◌∙◌, true≢false}
 use Rattle.bmp_cert.specs.declared.cert.VertexPart.{VertexPart}
 use Rattle.bmp_build.specs.Building.{IsBuiltDown}
 use Rattle.bmp_build.proofs.Downward.{have_members, down_more, level_there}

@@ -1,4 +1,4 @@
-use Rattle.std.proofs.Common.{ℕ, suc, ◌-◌, length}
+use Rattle.std.proofs.Common.{suc, ◌-◌, length}
 use Rattle.bmp_graph.specs.Graph.{vertex_count}
 use Rattle.bmp_build.specs.Building.{IsBuiltDown}
 use Rattle.bmp_build.proofs.level.build_level.Given as goal

@@ -1,4 +1,4 @@
-use Rattle.std.proofs.Common.{◌≡◌, ◌+◌, ◌<◌, ◌≤◌, ◌++◌, ◌∷◌, [], suc, List, refl, sym, ap, subst, ◌∙◌, arith}
+use Rattle.std.proofs.Common.{◌≡◌, ◌+◌, ◌<◌, ◌++◌, ◌∷◌, [], suc, List, refl, ap, subst, ◌∙◌, arith}
 use Rattle.bmp_graph.specs.Graph.{Graph, vertex_count}
 use Rattle.bmp_levels.specs.Runs.{FamilyTable}
 use Rattle.bmp_build.specs.Building.{HoldsFamily}

@@ -1,11 +1,11 @@
-use Rattle.std.proofs.Common.{◌≡◌, ◌<◌, List, length, sym, ap, subst, arith}
+use Rattle.std.proofs.Common.{◌≡◌, List, length, sym, ap, subst, arith}
 use Rattle.std.specs.Prelude.{All}
 use Rattle.std.proofs.lemmas.List.Elements.{All-nil}
 use Rattle.bmp_field.specs.declared.prime.PrimeField.{PrimeField}
-use Rattle.bmp_graph.specs.Graph.{Graph, IsGraph, vertex_count}
+use Rattle.bmp_graph.specs.Graph.{IsGraph, vertex_count}
 use Rattle.bmp_linear.specs.declared.vector.Entry.{Entry}
 use Rattle.bmp_linear.specs.SparseVectors.{ValuesBelow}
-use Rattle.bmp_sheaf.specs.States.{Stalk, SheafState, next_vertex}
+use Rattle.bmp_sheaf.specs.States.{SheafState, next_vertex}
 use Rattle.bmp_sheaf.specs.StalkFaults.{IsStalk}
 use Rattle.bmp_cert.specs.declared.cert.VertexPart.{VertexPart}
 use Rattle.bmp_build.proofs.Beginning.{top_is_stalk}

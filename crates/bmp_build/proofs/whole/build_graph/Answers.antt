@@ -1,6 +1,5 @@
 use Rattle.std.proofs.Common.{◌≡◌, ◌+◌, ◌-◌, suc, List, [], ◌∷◌, ◌++◌, sym, ap, ap₂, subst, ◌∙◌, arith}
-use Rattle.bmp_field.specs.declared.prime.PrimeField.{PrimeField}
-use Rattle.bmp_graph.specs.Graph.{vertex_count, length_at}
+use Rattle.bmp_graph.specs.Graph.{length_at}
 use Rattle.bmp_levels.specs.Runs.{FamilyTable}
 use Rattle.bmp_cert.specs.declared.cert.VertexPart.{VertexPart}
 use Rattle.bmp_check.specs.BlockData.{top_vertex}
