@@ -1,0 +1,4 @@
+pub mod Blocks
+pub mod Values
+pub mod Drafts
+pub mod BuiltParts
