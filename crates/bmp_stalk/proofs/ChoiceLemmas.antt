@@ -1,10 +1,10 @@
 -- What was read off a choice of columns passes as evidence, where the kept columns are the boundary matrix.
-use Rattle.std.proofs.Common.{◌≡◌, ℕ, ◌+◌, ◌%◌, ◌<◌, ◌≤◌, cond, eqb, List, [], length, get_or, inl, inr, refl, sym, ap, ◌∙◌, arith, eq-eqb, ne_eqb}
+use Rattle.std.proofs.Common.{◌≡◌, ℕ, ◌+◌, ◌%◌, ◌<◌, ◌≤◌, eqb, List, length, inl, inr, sym, ap, ◌∙◌, arith, eq-eqb, ne_eqb}
 use Rattle.std.specs.Prelude.{slice_index}
 use Rattle.std.proofs.Math.Nat.{mod-eq_of_lt}
 use Rattle.std.proofs.lemmas.Bool.{cases_eq, cond-true, cond-false}
 use Rattle.bmp_math.specs.Vectors.{unit}
-use Rattle.bmp_math.specs.Matrices.{Matrix, combination}
+use Rattle.bmp_math.specs.Matrices.{Matrix}
 use Rattle.bmp_linear.specs.SparseVectors.{number_at}
 use Rattle.bmp_linear.specs.Evidence.{vector_at}
 use Rattle.bmp_linear.specs.declared.evidence.CoverEvidence.{CoverEvidence}
@@ -20,10 +20,10 @@ use Rattle.bmp_sheaf.proofs.BoundaryMaps.{boundary_image}
 use Rattle.bmp_math.proofs.SameMatrices.{image_same, combination_same}
 use Rattle.bmp_sections.specs.TupleLists.{TupleList, tuples_in}
 use Rattle.bmp_cover.specs.Evidence.{combined_tuple, generator_place}
-use Rattle.bmp_cover.specs.CoverChecks.{source_place, ComparesCover, ComparesSource, ComparesDual, CoverCompares, CoverPasses}
+use Rattle.bmp_cover.specs.CoverChecks.{source_place, CoverCompares, CoverPasses}
 use Rattle.bmp_cover.proofs.CompareLemmas.{single_boundary}
 use Rattle.bmp_cover.proofs.CoverSides.{all_pass, cover_left, cover_right, source_left, source_right, dual_left}
-use Rattle.bmp_stalk.specs.Blocks.{IsJoinedBoundary, HasKeptBoundary, IsReadOff, one_at, ChosenColumnsPass}
+use Rattle.bmp_stalk.specs.Blocks.{IsJoinedBoundary, HasKeptBoundary, IsReadOff, ChosenColumnsPass}
 
 unit_small : (p i j : ℕ) → 2 ≤ p → unit i j < p
 unit_small p i j two =

@@ -1,5 +1,5 @@
 -- A stalk that grows in memory grows as a sheaf, and what was built stays built.
-use Rattle.std.proofs.Common.{◌≡◌, ℕ, zero, suc, ◌+◌, ◌-◌, ◌*◌, ◌%◌, ◌<◌, ◌≤◌, List, [], ◌∷◌, length, get_or, inl, inr, sym, ap, ap₂, subst, ◌∙◌, arith}
+use Rattle.std.proofs.Common.{◌≡◌, ℕ, zero, suc, ◌+◌, ◌-◌, ◌%◌, ◌<◌, ◌≤◌, List, [], length, inl, inr, sym, ap, ap₂, subst, ◌∙◌, arith}
 use Rattle.std.specs.Prelude.{slice_index, All}
 use Rattle.std.specs.List.Sorted.{IsStrictlyIncreasing}
 use Rattle.std.proofs.lemmas.Bool.{cases_eq, cases_lt}
@@ -7,9 +7,9 @@ use Rattle.std.proofs.lemmas.List.{get_or_default}
 use Rattle.bmp_math.specs.Matrices.{SameMatrix}
 use Rattle.bmp_linear.specs.declared.vector.Entry.{Entry}
 use Rattle.bmp_linear.specs.declared.blocks.DegreeBlock.{DegreeBlock}
-use Rattle.bmp_linear.specs.SparseVectors.{FitsBelow, ValuesBelow, number_at}
-use Rattle.bmp_elim.specs.KeptColumns.{kept_columns, AreColumns}
-use Rattle.bmp_graph.specs.Graph.{edge_count, lower, upper, vertex_count}
+use Rattle.bmp_linear.specs.SparseVectors.{FitsBelow, number_at}
+use Rattle.bmp_elim.specs.KeptColumns.{kept_columns}
+use Rattle.bmp_graph.specs.Graph.{edge_count, lower, upper}
 use Rattle.bmp_graph.proofs.GraphLemmas.{edge_rises}
 use Rattle.bmp_sheaf.specs.Elements.{Element, SameElement}
 use Rattle.bmp_sheaf.specs.Coordinates.{stalk_count, element_of, boundary_count}
@@ -21,7 +21,6 @@ use Rattle.bmp_sheaf.proofs.EdgeMaps.{element_respects}
 use Rattle.bmp_sections.specs.TupleLists.{TupleList, tuples_in}
 use Rattle.bmp_cover.specs.Counts.{generators_in}
 use Rattle.bmp_cover.specs.CoverInputs.{CoverFits}
-use Rattle.bmp_cover.specs.CoverChecks.{CoverCompares, CoverPasses}
 use Rattle.bmp_stalk.specs.Blocks.{one_at, AreChosenTuples, AreGrown, IsGrown, IsJoinedBoundary, HasKeptBoundary}
 use Rattle.bmp_stalk.specs.Drafts.{lift_in, with_draft, IsLonger, GrowsBy, IsBuiltDegree, IsNext}
 use Rattle.bmp_stalk.specs.BuiltParts.{IsBuiltBlock}

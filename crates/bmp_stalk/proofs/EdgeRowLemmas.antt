@@ -1,8 +1,8 @@
 -- The row of an edge's coordinate is the row of its place in the joined matrix.
-use Rattle.std.proofs.Common.{◌≡◌, ℕ, ◌+◌, ◌-◌, ◌*◌, ◌%◌, ◌<◌, ◌≤◌, cond, leb, List, length, get_or, inl, inr, refl, sym, ap, ap₂, subst, ◌∙◌, arith}
+use Rattle.std.proofs.Common.{◌≡◌, ℕ, ◌+◌, ◌-◌, ◌*◌, ◌%◌, ◌<◌, ◌≤◌, leb, List, get_or, inl, inr, sym, ap, ap₂, subst, ◌∙◌, arith}
 use Rattle.std.proofs.lemmas.Bool.{cases_lt, cond-true, cond-false, le-leb, lt-leb}
 use Rattle.bmp_math.specs.Sums.{sum_below}
-use Rattle.bmp_math.specs.Matrices.{Matrix, NumbersBelow, combination, image, SameMatrix}
+use Rattle.bmp_math.specs.Matrices.{Matrix, NumbersBelow, combination, SameMatrix}
 use Rattle.bmp_math.proofs.SumLemmas.{sum_below_same}
 use Rattle.bmp_linear.specs.declared.vector.Entry.{Entry}
 use Rattle.bmp_linear.specs.SparseVectors.{number_at}
@@ -11,7 +11,7 @@ use Rattle.bmp_linear.specs.RowVectors.{IsRowVector}
 use Rattle.bmp_graph.specs.Graph.{Graph, edge_count, lower, upper}
 use Rattle.bmp_sheaf.specs.Fields.{IsOverField}
 use Rattle.bmp_sheaf.specs.Sheaves.{SheafData, boundary_of_tuple}
-use Rattle.bmp_sheaf.specs.Coordinates.{stalk_count, edge_module_count, boundary_start, boundary_count}
+use Rattle.bmp_sheaf.specs.Coordinates.{stalk_count, edge_module_count, boundary_start}
 use Rattle.bmp_sheaf.specs.Numbers.{lower_matrix, upper_matrix, boundary_matrix}
 use Rattle.bmp_sheaf.proofs.EdgeMaps.{upper_image}
 use Rattle.bmp_sheaf.proofs.BoundaryNumbers.{boundary_number_at, boundary_number_below}
@@ -56,7 +56,8 @@ module _ {G : Graph} {F : SheafData} {x d e : ℕ} {list : TupleList} {low high 
           (h.values_are.entries c j coordinate is_tuple))
           ∙ products_turned ((upper_matrix G F d e).entry i) (list.value j (upper G e)) n)
           ∙ upper_image G h.over F d e h.is_edge (list.value j (upper G e)) i inside
-          ∙ sym (boundary_number_at G F x d (boundary_of_tuple G (tuples_in G F d list j)) e i h.is_edge h.starts inside)
+          ∙ sym (boundary_number_at G F x d (boundary_of_tuple G (tuples_in G F d list j)) e i h.is_edge h.starts
+          inside)
 
       pub joined_row_is : (xs : List ℕ) → IsJoinedRow G.prime low (number_at row) values i xs → (c : ℕ) →
           c < stalk_count G.rank (F.degrees x) d + list.count →

@@ -1,15 +1,15 @@
--- The stalk at a vertex grows by generators of one degree: the columns of the boundary matrix stay, and the new ones are
--- the boundaries of the tuples that were chosen. Generators of greater degree change nothing.
-use Rattle.std.proofs.Common.{◌≡◌, ◌≢◌, ℕ, zero, suc, ◌+◌, ◌-◌, ◌*◌, ◌%◌, ◌<◌, ◌≤◌, cond, leb, eqb, List, length, inl, inr, refl, sym, ap, ap₂, subst, ◌∙◌, arith, ne_eqb}
+-- The stalk at a vertex grows by generators of one degree: the columns of the boundary matrix stay, and the new ones
+-- are the boundaries of the tuples that were chosen. Generators of greater degree change nothing.
+use Rattle.std.proofs.Common.{◌≡◌, ℕ, zero, suc, ◌+◌, ◌-◌, ◌<◌, ◌≤◌, cond, leb, eqb, List, length, inl, inr, refl, sym, ap, subst, ◌∙◌, arith, ne_eqb}
 use Rattle.std.specs.Prelude.{slice_index, count_by}
 use Rattle.std.proofs.Math.Path.{fun_ext}
 use Rattle.std.proofs.Math.Seq.{take-length}
 use Rattle.std.proofs.lemmas.Bool.{cases_eq, cases_lt, cases_Bool, cond-true, cond-false, lt-leb}
 use Rattle.bmp_math.specs.Sums.{sum_below}
 use Rattle.bmp_math.specs.Vectors.{unit}
-use Rattle.bmp_math.specs.Matrices.{Matrix, SameMatrix}
+use Rattle.bmp_math.specs.Matrices.{Matrix}
 use Rattle.bmp_math.proofs.SumLemmas.{sum_below_same, sum_below-suc, sum_below_joined, sum_below-zeros, sum_below_rises}
-use Rattle.bmp_elim.specs.KeptColumns.{kept_place, kept_columns, AreColumns}
+use Rattle.bmp_elim.specs.KeptColumns.{kept_place, AreColumns}
 use Rattle.bmp_elim.proofs.KeptColumnLemmas.{kept_early, kept_late}
 use Rattle.bmp_poly.specs.Exponents.{count, place}
 use Rattle.bmp_graded.proofs.ComponentLemmas.{count_none}
@@ -36,9 +36,15 @@ use Rattle.bmp_stalk.specs.Blocks.{tuple_boundary, IsJoinedBoundary, IsBoundaryS
 
 -- where the generators' coordinates start
 module _ {d t : ℕ} {from to : List ℕ} (h : AreGrown d t from to) (r : ℕ) where
+  abbrev size : ℕ → ℕ
+  size g = component_count r d (slice_index to g)
+
+  start_next : (g : ℕ) → stalk_start r to d (suc g) ≡ stalk_start r to d g + size g
+  start_next g = sum_below-suc size g
+
   pub start_kept : (g : ℕ) → g ≤ length from → stalk_start r to d g ≡ stalk_start r from d g
   start_kept g within =
-      sum_below_same (λ f. component_count r d (slice_index to f)) (λ f. component_count r d (slice_index from f)) g
+      sum_below_same size (λ f. component_count r d (slice_index from f)) g
       (λ i l. ap (component_count r d) (h.kept i (omega arith)))
 
   one_place : component_count r d d ≡ 1
@@ -51,13 +57,8 @@ module _ {d t : ℕ} {from to : List ℕ} (h : AreGrown d t from to) (r : ℕ) w
       ap (stalk_start r to d) same ∙ start_kept (length from) (omega arith) ∙ none
   start_new (suc i) l =
       let next : length from + suc i ≡ suc (length from + i) = omega arith in
-      let size : component_count r d (slice_index to (length from + i)) ≡ 1 = ap (component_count r d) (h.new i
-      (omega arith)) ∙ one_place in
-      let before : stalk_start r to d (length from + i) ≡ stalk_count r from d + i = start_new i (omega arith) in
-      let added : stalk_start r to d (suc (length from + i)) ≡ stalk_start r to d (length from + i) +
-      component_count r d (slice_index to (length from + i)) =
-      sum_below-suc (λ f. component_count r d (slice_index to f)) (length from + i) in
-      ap (stalk_start r to d) next ∙ omega (arith, added, before, size)
+      let one : size (length from + i) ≡ 1 = ap (component_count r d) (h.new i (omega arith)) ∙ one_place in
+      ap (stalk_start r to d) next ∙ omega (arith, start_next (length from + i), start_new i (omega arith), one)
 
   start_later : (k : ℕ) → (length from + t) + k ≤ length to →
       stalk_start r to d ((length from + t) + k) ≡ stalk_count r from d + t
@@ -66,18 +67,11 @@ module _ {d t : ℕ} {from to : List ℕ} (h : AreGrown d t from to) (r : ℕ) w
       ap (stalk_start r to d) same ∙ start_new t (omega arith)
   start_later (suc k) l =
       let g : ℕ = (length from + t) + k in
-      let next : (length from + t) + suc k ≡ suc ((length from + t) + k) = omega arith in
-      let above : d < slice_index to ((length from + t) + k) = h.later ((length from + t) + k) (omega arith) (omega
-      arith) in
-      let none : component_count r d (slice_index to ((length from + t) + k)) ≡ 0 =
-      cond-false {A = ℕ} (leb (slice_index to ((length from + t) + k)) d) (count r (d - slice_index to ((length
-      from + t) + k))) 0 (lt-leb (slice_index to ((length from + t) + k)) d above) in
-      let before : stalk_start r to d ((length from + t) + k) ≡ stalk_count r from d + t = start_later k (omega
-      arith) in
-      let added : stalk_start r to d (suc ((length from + t) + k)) ≡ stalk_start r to d ((length from + t) + k) +
-      component_count r d (slice_index to ((length from + t) + k)) =
-      sum_below-suc (λ f. component_count r d (slice_index to f)) ((length from + t) + k) in
-      ap (stalk_start r to d) next ∙ omega (arith, added, before, none)
+      let b : ℕ = slice_index to ((length from + t) + k) in
+      let next : (length from + t) + suc k ≡ suc g = omega arith in
+      let above : d < b = h.later g (omega arith) (omega arith) in
+      let none : size g ≡ 0 = cond-false {A = ℕ} (leb b d) (count r (d - b)) 0 (lt-leb b d above) in
+      ap (stalk_start r to d) next ∙ omega (arith, start_next g, start_later k (omega arith), none)
 
   pub count_grown : stalk_count r to d ≡ stalk_count r from d + t
   count_grown =
@@ -95,53 +89,55 @@ module _ {d t : ℕ} {from to : List ℕ} (h : AreGrown d t from to) (r : ℕ) w
   ]
 
   -- the lift of a unit at an old coordinate rests on the old generators alone
-  module _ (wide : r ≤ 6) (images images' : ℕ → Element) (same : (g : ℕ) → g < length from →
-      images' g ≡ images g) (c : ℕ) (old : c < stalk_count r from d) (k : ℕ) (m : List ℕ) where
-    abbrev part : ℕ → ℕ → Element → ℕ
-    part a start image = cond (leb a d) (product 6 r (d - a) (λ (e : List ℕ). unit c (start + place r e)) (image k)
-        m) 0
+  module _ (wide : r ≤ 6) (images images' : ℕ → Element)
+      (same : (g : ℕ) → g < length from → images' g ≡ images g) (c : ℕ) (old : c < stalk_count r from d) (k : ℕ)
+      (m : List ℕ) where
+    abbrev unit_from : ℕ → List ℕ → ℕ
+    unit_from start e = unit c (start + place r e)
 
-    part_none : (g : ℕ) → length from ≤ g → part (slice_index to g) (stalk_start r to d g) (images' g) ≡ 0
+    abbrev part : ℕ → ℕ → Element → ℕ
+    part a start image = cond (leb a d) (product 6 r (d - a) (unit_from start) (image k) m) 0
+
+    abbrev new_part : ℕ → ℕ
+    new_part g = part (slice_index to g) (stalk_start r to d g) (images' g)
+
+    abbrev old_part : ℕ → ℕ
+    old_part g = part (slice_index from g) (stalk_start r from d g) (images g)
+
+    part_none : (g : ℕ) → length from ≤ g → new_part g ≡ 0
     part_none g late =
-        let before : stalk_start r to d (length from) ≤ stalk_start r to d g = sum_below_rises (λ f.
-        component_count r d (slice_index to f)) (length from) g late in
-        let past : c < stalk_start r to d g = omega (arith, before, start_kept (length from) (omega arith), old) in
-        elim (cases_Bool (leb (slice_index to g) d)) [
+        let b : ℕ = slice_index to g in
+        let start : ℕ = stalk_start r to d g in
+        let times : ℕ = product 6 r (d - b) (unit_from start) (images' g k) m in
+        let before : stalk_start r to d (length from) ≤ start = sum_below_rises size (length from) g late in
+        let past : c < start = omega (arith, before, start_kept (length from) (omega arith), old) in
+        elim (cases_Bool (leb b d)) [
           | inl held ↦
-              cond-true {A = ℕ} (leb (slice_index to g) d) (product 6 r (d - slice_index to g) (λ (e : List ℕ).
-              unit c (stalk_start r to d g + place r e)) (images' g k) m) 0 held
-              ∙ product_none r (d - slice_index to g) (images' g k) m (λ (e : List ℕ). unit c (stalk_start r to d g
-              + place r e)) wide
-              (λ e is. cond-false {A = ℕ} (eqb c (stalk_start r to d g + place r e)) 1 0 (ne_eqb c (stalk_start r
-              to d g + place r e) (λ at. absurd (omega arith))))
-          | inr none ↦ cond-false {A = ℕ} (leb (slice_index to g) d) (product 6 r (d - slice_index to g) (λ (e :
-              List ℕ). unit c (stalk_start r to d g + place r e)) (images' g k) m) 0 none
+              cond-true {A = ℕ} (leb b d) times 0 held
+              ∙ product_none r (d - b) (images' g k) m (unit_from start) wide
+              (λ e is. cond-false {A = ℕ} (eqb c (start + place r e)) 1 0
+              (ne_eqb c (start + place r e) (λ at. absurd (omega arith))))
+          | inr none ↦ cond-false {A = ℕ} (leb b d) times 0 none
         ]
 
-    pub extension_kept : extension r to images' d (unit_at r to d c) k m ≡ extension r from images d (unit_at r
-        from d c) k m
+    pub extension_kept : extension r to images' d (unit_at r to d c) k m
+        ≡ extension r from images d (unit_at r from d c) k m
     unfolding extension
     extension_kept =
-        let f : ℕ → ℕ = λ g. part (slice_index to g) (stalk_start r to d g) (images' g) in
-        let e : ℕ → ℕ = λ g. part (slice_index from g) (stalk_start r from d g) (images g) in
-        let rest : length from + (length to - length from) ≡ length to = omega (arith, h.longer) in
-        let first : sum_below (λ g. part (slice_index to g) (stalk_start r to d g) (images' g)) (length from) ≡
-        sum_below (λ g. part (slice_index from g) (stalk_start r from d g) (images g)) (length from) =
-        sum_below_same (λ g. part (slice_index to g) (stalk_start r to d g) (images' g)) (λ g. part (slice_index
-        from g) (stalk_start r from d g) (images g)) (length from)
+        let n : ℕ = length from in
+        let more : ℕ = length to - length from in
+        let rest : n + more ≡ length to = omega (arith, h.longer) in
+        let first : sum_below new_part n ≡ sum_below old_part n =
+        sum_below_same new_part old_part n
         (λ g l.
         ap (λ a. part a (stalk_start r to d g) (images' g)) (h.kept g l)
         ∙ ap (λ s. part (slice_index from g) s (images' g)) (start_kept g (omega arith))
         ∙ ap (part (slice_index from g) (stalk_start r from d g)) (same g l)) in
-        let second : sum_below (λ i. part (slice_index to (length from + i)) (stalk_start r to d (length from + i))
-        (images' (length from + i))) (length to - length from) ≡ 0 =
-        sum_below_same (λ i. part (slice_index to (length from + i)) (stalk_start r to d (length from + i))
-        (images' (length from + i))) (λ i. 0) (length to - length from)
-        (λ i l. part_none (length from + i) (omega arith))
-        ∙ sum_below-zeros (length to - length from) in
-        ap (sum_below (λ g. part (slice_index to g) (stalk_start r to d g) (images' g))) (sym rest)
-        ∙ sum_below_joined (λ g. part (slice_index to g) (stalk_start r to d g) (images' g)) (length from) (length
-        to - length from)
+        let second : sum_below (λ i. new_part (n + i)) more ≡ 0 =
+        sum_below_same (λ i. new_part (n + i)) (λ i. 0) more (λ i l. part_none (n + i) (omega arith))
+        ∙ sum_below-zeros more in
+        ap (sum_below new_part) (sym rest)
+        ∙ sum_below_joined new_part n more
         ∙ omega (arith, first, second)
 
 -- which of the generators of degree d a generator is
@@ -152,23 +148,22 @@ module _ {d t : ℕ} {from : List ℕ} (F : SheafData) (x : ℕ) (h : AreGrown d
       let inside : g < length from = omega arith in
       let within : g < length (F.degrees x) = omega (arith, inside, h.longer) in
       let next : suc g ≡ g + 1 = omega arith in
-      ap (source_place F x d) next ∙ place_after_other F x d g within (λ own. absurd (omega (
-        arith,
-        own,
-        h.lower g
-            inside,
-        h.kept g inside,
-      ))) ∙ place_low g (omega arith)
+      ap (source_place F x d) next
+      ∙ place_after_other F x d g within (λ own. absurd (omega (arith, own, h.lower g inside, h.kept g inside)))
+      ∙ place_low g (omega arith)
 
   pub place_new : (i : ℕ) → i ≤ t → source_place F x d (length from + i) ≡ i
-  place_new zero l = let same : length from + 0 ≡ length from = omega arith in ap (source_place F x d) same
-      ∙ place_low (length from) (omega arith)
+  place_new zero l =
+      let same : length from + 0 ≡ length from = omega arith in
+      ap (source_place F x d) same ∙ place_low (length from) (omega arith)
   place_new (suc i) l =
       let within : length from + i < length (F.degrees x) = omega (arith, h.longer) in
       let next : length from + suc i ≡ (length from + i) + 1 = omega arith in
       let one : i + 1 ≡ suc i = omega arith in
-      ap (source_place F x d) next ∙ place_after_new F x d (length from + i) within (h.new i (omega arith))
-      ∙ ap (λ z. z + 1) (place_new i (omega arith)) ∙ one
+      ap (source_place F x d) next
+      ∙ place_after_new F x d (length from + i) within (h.new i (omega arith))
+      ∙ ap (λ z. z + 1) (place_new i (omega arith))
+      ∙ one
 
   place_later : (k : ℕ) → (length from + t) + k ≤ length (F.degrees x) →
       source_place F x d ((length from + t) + k) ≡ t
@@ -197,38 +192,36 @@ pub record HaveSameAbove (G : Graph) (F F' : SheafData) (x : ℕ) : Type 0 where
   pub above : (e : ℕ) → e < edge_count G → lower G e ≡ x → F.degrees (upper G e) ≡ F'.degrees (upper G e)
 
 module _ {G : Graph} {F F' : SheafData} {x : ℕ} (d : ℕ) (h : HaveSameAbove G F F' x) where
+  -- how many boundary coordinates at x stand on an edge
+  abbrev on : SheafData → ℕ → ℕ
+  on H e = cond (eqb (lower G e) x) (edge_module_count G H d e) 0
+
   edge_same : (e : ℕ) → e < edge_count G → lower G e ≡ x → edge_module_count G F d e ≡ edge_module_count G F' d e
   edge_same e is_edge starts = ap (λ b. stalk_count (G.rank - 1) b d) (h.above e is_edge starts)
 
-  size_same : (e : ℕ) → e < edge_count G →
-      cond (eqb (lower G e) x) (edge_module_count G F d e) 0 ≡ cond (eqb (lower G e) x) (edge_module_count G F' d e) 0
-  size_same e is_edge = elim (cases_eq (lower G e) x) [
-    | inl starts ↦ ap (λ z. cond (eqb (lower G e) x) z 0) (edge_same e is_edge starts)
-    | inr other ↦
-        cond-false {A = ℕ} (eqb (lower G e) x) (edge_module_count G F d e) 0 (ne_eqb (lower G e) x other)
-        ∙ sym (cond-false {A = ℕ} (eqb (lower G e) x) (edge_module_count G F' d e) 0 (ne_eqb (lower G e) x other))
-  ]
+  size_same : (e : ℕ) → e < edge_count G → on F e ≡ on F' e
+  size_same e is_edge =
+      let from : SheafData → ℕ = λ (H : SheafData). edge_module_count G H d e in
+      elim (cases_eq (lower G e) x) [
+        | inl starts ↦ ap (λ z. cond (eqb (lower G e) x) z 0) (edge_same e is_edge starts)
+        | inr other ↦
+            cond-false {A = ℕ} (eqb (lower G e) x) (from F) 0 (ne_eqb (lower G e) x other)
+            ∙ sym (cond-false {A = ℕ} (eqb (lower G e) x) (from F') 0 (ne_eqb (lower G e) x other))
+      ]
 
   start_same : (e : ℕ) → e ≤ edge_count G → boundary_start G F x d e ≡ boundary_start G F' x d e
-  start_same e within =
-      sum_below_same (λ f. cond (eqb (lower G f) x) (edge_module_count G F d f) 0) (λ f. cond (eqb (lower G f) x)
-      (edge_module_count G F' d f) 0) e
-      (λ f l. size_same f (omega arith))
+  start_same e within = sum_below_same (on F) (on F') e (λ f l. size_same f (omega arith))
 
   pub boundary_count_same : boundary_count G F x d ≡ boundary_count G F' x d
   boundary_count_same = start_same (edge_count G) (omega arith)
 
-  pub number_same : (b c : Boundary) → ((e i : ℕ) → e < edge_count G → lower G e ≡ x →
-      on_edge G F d e (b e) i ≡ on_edge G F' d e (c e) i) → (k : ℕ) → k < boundary_count G F x d →
-      boundary_number G F x d b k ≡ boundary_number G F' x d c k
+  pub number_same : (b c : Boundary) →
+      ((e i : ℕ) → e < edge_count G → lower G e ≡ x → on_edge G F d e (b e) i ≡ on_edge G F' d e (c e) i) → (k : ℕ) →
+      k < boundary_count G F x d → boundary_number G F x d b k ≡ boundary_number G F' x d c k
   number_same b c same k below =
       let at : IsBoundaryPlace G F x d k = boundary_place_of G F x d k below in
-      let inside : at.place < edge_module_count G F' d at.edge = omega (
-        arith,
-        at.inside,
-        edge_same at.edge
-            at.is_edge at.starts,
-      ) in
+      let inside : at.place < edge_module_count G F' d at.edge =
+      omega (arith, at.inside, edge_same at.edge at.is_edge at.starts) in
       ap (boundary_number G F x d b) (sym at.is)
       ∙ boundary_number_at G F x d b at.edge at.place at.is_edge at.starts at.inside
       ∙ same at.edge at.place at.is_edge at.starts
@@ -241,20 +234,21 @@ module _ {G : Graph} {F F' : SheafData} {x : ℕ} (d : ℕ) (h : HaveSameAbove G
       tuple_boundary G F x d list j k ≡ tuple_boundary G F' x d list j k
   tuple_same list j =
       number_same (boundary_of_tuple G (tuples_in G F d list j)) (boundary_of_tuple G (tuples_in G F' d list j))
-      (λ e i is_edge starts. ap (λ b. edge_number G.prime G.rank (label G e) (leading G e) b d (element_of G.rank b
-      d (list.value j (upper G e))) i) (h.above e is_edge starts))
+      (λ e i is_edge starts.
+      ap (λ b. edge_number G.prime G.rank (label G e) (leading G e) b d
+      (element_of G.rank b d (list.value j (upper G e))) i) (h.above e is_edge starts))
 
 -- the stalk has grown
-pub record HasGrown (G : Graph) (x d : ℕ) (list : TupleList) (o : Matrix) (chosen : List ℕ) (F F' : SheafData) :
-    Type 0 where
+pub record HasGrown (G : Graph) (x d : ℕ) (list : TupleList) (o : Matrix) (chosen : List ℕ) (F F' : SheafData)
+    : Type 0 where
   pub over : IsOverField G
   pub wide : G.rank ≤ 6
   pub columns : AreColumns (stalk_count G.rank (F.degrees x) d) o chosen
   pub so_far : IsBoundarySoFar G F x d list o
   pub grown : IsGrown G x d list chosen F F'
 
-module _ {G : Graph} {x d : ℕ} {list : TupleList} {o : Matrix} {chosen : List ℕ} {F F' : SheafData} (h : HasGrown G
-    x d list o chosen F F') where
+module _ {G : Graph} {x d : ℕ} {list : TupleList} {o : Matrix} {chosen : List ℕ} {F F' : SheafData}
+    (h : HasGrown G x d list o chosen F F') where
   abbrev split : ℕ
   split = stalk_count G.rank (F.degrees x) d
 
@@ -267,7 +261,7 @@ module _ {G : Graph} {x d : ℕ} {list : TupleList} {o : Matrix} {chosen : List 
   counts : boundary_count G F x d ≡ boundary_count G F' x d
   counts = boundary_count_same d same_above
 
-  pub joined_still : IsJoinedBoundary G F' x d list (stalk_count G.rank (F.degrees x) d) o
+  joined_still : IsJoinedBoundary G F' x d list split o
   joined_still = record {
     rows = h.so_far.joined.rows ∙ counts;
     cols = h.so_far.joined.cols;
@@ -277,84 +271,73 @@ module _ {G : Graph} {x d : ℕ} {list : TupleList} {o : Matrix} {chosen : List 
   }
 
   -- an old column stays
-  old_column : (c k : ℕ) → c < stalk_count G.rank (F.degrees x) d → k < boundary_count G F x d →
+  old_column : (c k : ℕ) → c < split → k < boundary_count G F x d →
       (boundary_matrix G F x d).entry k c ≡ (boundary_matrix G F' x d).entry k c
   old_column c k old below =
-      number_same d same_above (boundary_of_element G F d (unit_at G.rank (F.degrees x) d c)) (boundary_of_element
-      G F' d (unit_at G.rank (F'.degrees x) d c))
+      let u : Element = unit_at G.rank (F.degrees x) d c in
+      let u' : Element = unit_at G.rank (F'.degrees x) d c in
+      number_same d same_above (boundary_of_element G F d u) (boundary_of_element G F' d u')
       (λ e i is_edge starts.
-      let left : Element = extension G.rank (F.degrees x) (F.lift e) d (unit_at G.rank (F.degrees x) d c) in
-      ap (λ y. on_edge G F d e (extension G.rank (F.degrees y) (F.lift e) d (unit_at G.rank (F.degrees x) d c)) i)
-      starts
-      ∙ ap (λ b. edge_number G.prime G.rank (label G e) (leading G e) b d (extension G.rank (F.degrees x) (F.lift
-      e) d (unit_at G.rank (F.degrees x) d c)) i) (h.grown.above e is_edge starts)
+      let left : ℕ → Element = λ y. extension G.rank (F.degrees y) (F.lift e) d u in
+      ap (λ y. on_edge G F d e (left y) i) starts
+      ∙ ap (λ b. edge_number G.prime G.rank (label G e) (leading G e) b d (left x) i) (h.grown.above e is_edge starts)
       ∙ ap (λ (a : Element). on_edge G F' d e a i)
-      (sym (fun_ext (λ g. fun_ext (λ m. extension_kept h.grown.degrees G.rank h.wide (F.lift e) (F'.lift e) (λ f l.
-      h.grown.kept_lifts e f is_edge starts l) c old g m))))
-      ∙ ap (λ y. on_edge G F' d e (extension G.rank (F'.degrees y) (F'.lift e) d (unit_at G.rank (F'.degrees x) d
-      c)) i) (sym starts)) k below
+      (sym (fun_ext (λ g. fun_ext (λ m.
+      extension_kept h.grown.degrees G.rank h.wide (F.lift e) (F'.lift e)
+      (λ f l. h.grown.kept_lifts e f is_edge starts l) c old g m))))
+      ∙ ap (λ y. on_edge G F' d e (extension G.rank (F'.degrees y) (F'.lift e) d u') i) (sym starts)) k below
 
   -- a new generator's place, number and degree
-  new_within : (i : ℕ) → i < length chosen → length (F.degrees x) + i < length (F'.degrees x)
+  new_within : (i : ℕ) → i < length chosen → n + i < length (F'.degrees x)
   new_within i l = omega (arith, h.grown.degrees.longer)
 
-  new_place : (i : ℕ) → i < length chosen →
-      generator_place G F' x d (length (F.degrees x) + i) ≡ stalk_count G.rank (F.degrees x) d + i
+  new_place : (i : ℕ) → i < length chosen → generator_place G F' x d (n + i) ≡ split + i
   new_place i l =
-      sym (own_place G F' x d (length (F.degrees x) + i) (stalk_count G.rank (F.degrees x) d + i) (sym (start_new
-      h.grown.degrees G.rank i (omega arith))))
+      sym (own_place G F' x d (n + i) (split + i) (sym (start_new h.grown.degrees G.rank i (omega arith))))
 
   -- a new column is the boundary of its tuple
   new_column : (i k : ℕ) → i < length chosen → k < boundary_count G F' x d →
-      (boundary_matrix G F' x d).entry k (stalk_count G.rank (F.degrees x) d + i) ≡ tuple_boundary G F' x d list
-      (slice_index chosen i) k
+      (boundary_matrix G F' x d).entry k (split + i) ≡ tuple_boundary G F' x d list (slice_index chosen i) k
   new_column i k l below =
-      let g : ℕ = length (F.degrees x) + i in
-      let own : slice_index (F'.degrees x) (length (F.degrees x) + i) ≡ d = h.grown.degrees.new i l in
+      let g : ℕ = n + i in
+      let tuple : ℕ → Element = tuples_in G F' d list (slice_index chosen i) in
+      let own : slice_index (F'.degrees x) g ≡ d = h.grown.degrees.new i l in
       ap ((boundary_matrix G F' x d).entry k) (sym (new_place i l))
-      ∙ sym (generator_column G F' x d h.over (length (F.degrees x) + i) h.wide (new_within i l) own k below)
-      ∙ boundary_number_respects G F' x d h.over (boundary_of_element G F' d (unit_element (length (F.degrees x) +
-      i))) (boundary_of_tuple G (tuples_in G F' d list (slice_index chosen i)))
+      ∙ sym (generator_column G F' x d h.over g h.wide (new_within i l) own k below)
+      ∙ boundary_number_respects G F' x d h.over (boundary_of_element G F' d (unit_element g))
+      (boundary_of_tuple G tuple)
       (λ e is_edge starts.
-      let inside : length (F.degrees x) + i < length (F'.degrees (lower G e)) = subst (λ y. length (F.degrees x) +
-      i < length (F'.degrees y)) (sym starts) (new_within i l) in
-      let degree : slice_index (F'.degrees (lower G e)) (length (F.degrees x) + i) ≡ d = ap (λ y. slice_index
-      (F'.degrees y) (length (F.degrees x) + i)) starts ∙ own in
-      let lifted : SameElement G.prime G.rank (F'.degrees (upper G e)) d (lift_of G F' e d (unit_element (length
-      (F.degrees x) + i))) (F'.lift e (length (F.degrees x) + i)) =
-      subst (λ z. SameElement G.prime G.rank (F'.degrees (upper G e)) z (lift_of G F' e z (unit_element (length
-      (F.degrees x) + i))) (F'.lift e (length (F.degrees x) + i))) degree
-      (lift_unit G F' e (length (F.degrees x) + i) h.wide inside) in
-      same_chained G.prime G.rank (F'.degrees (upper G e)) d (lift_of G F' e d (unit_element (length (F.degrees x)
-      + i))) (F'.lift e (length (F.degrees x) + i)) (tuples_in G F' d list (slice_index chosen i) (upper G e))
+      let up : List ℕ = F'.degrees (upper G e) in
+      let inside : g < length (F'.degrees (lower G e)) =
+      subst (λ y. g < length (F'.degrees y)) (sym starts) (new_within i l) in
+      let degree : slice_index (F'.degrees (lower G e)) g ≡ d =
+      ap (λ y. slice_index (F'.degrees y) g) starts ∙ own in
+      let lifted : SameElement G.prime G.rank up d (lift_of G F' e d (unit_element g)) (F'.lift e g) =
+      subst (λ z. SameElement G.prime G.rank up z (lift_of G F' e z (unit_element g)) (F'.lift e g)) degree
+      (lift_unit G F' e g h.wide inside) in
+      same_chained G.prime G.rank up d (lift_of G F' e d (unit_element g)) (F'.lift e g) (tuple (upper G e))
       lifted (h.grown.new_lifts e i is_edge starts l)) k below
 
-  column_same : (k c : ℕ) → k < boundary_count G F' x d → c < stalk_count G.rank (F.degrees x) d + length chosen →
-      o.entry k (kept_place (stalk_count G.rank (F.degrees x) d) chosen c) ≡ (boundary_matrix G F' x d).entry k c
-  column_same k c row inside = elim (cases_lt c (stalk_count G.rank (F.degrees x) d)) [
+  column_same : (k c : ℕ) → k < boundary_count G F' x d → c < split + length chosen →
+      o.entry k (kept_place split chosen c) ≡ (boundary_matrix G F' x d).entry k c
+  column_same k c row inside = elim (cases_lt c split) [
     | inl old ↦
         let below : k < boundary_count G F x d = omega (arith, row, counts) in
-        ap (o.entry k) (kept_early (stalk_count G.rank (F.degrees x) d) chosen c old)
-        ∙ h.so_far.of_stalk c k old below ∙ old_column c k old below
+        ap (o.entry k) (kept_early split chosen c old) ∙ h.so_far.of_stalk c k old below ∙ old_column c k old below
     | inr late ↦
-        let i : ℕ = c - stalk_count G.rank (F.degrees x) d in
-        let back : stalk_count G.rank (F.degrees x) d + (c - stalk_count G.rank (F.degrees x) d) ≡ c = omega
-        (arith, late) in
-        let here : c - stalk_count G.rank (F.degrees x) d < length chosen = omega (arith, late, inside) in
-        let tuple : slice_index chosen (c - stalk_count G.rank (F.degrees x) d) < list.count = omega (
-          arith,
-          h.columns.below (c - stalk_count G.rank (F.degrees x) d) here,
-          h.so_far.joined.cols,
-        ) in
-        ap (λ z. o.entry k (kept_place (stalk_count G.rank (F.degrees x) d) chosen z)) (sym back)
-        ∙ ap (o.entry k) (kept_late (stalk_count G.rank (F.degrees x) d) chosen (c - stalk_count G.rank (F.degrees
-        x) d))
-        ∙ joined_still.of_tuples (slice_index chosen (c - stalk_count G.rank (F.degrees x) d)) k tuple row
-        ∙ sym (new_column (c - stalk_count G.rank (F.degrees x) d) k here row)
+        let i : ℕ = c - split in
+        let j : ℕ = slice_index chosen (c - split) in
+        let back : split + i ≡ c = omega (arith, late) in
+        let here : i < length chosen = omega (arith, late, inside) in
+        let tuple : j < list.count = omega (arith, h.columns.below i here, h.so_far.joined.cols) in
+        ap (λ z. o.entry k (kept_place split chosen z)) (sym back)
+        ∙ ap (o.entry k) (kept_late split chosen i)
+        ∙ joined_still.of_tuples j k tuple row
+        ∙ sym (new_column i k here row)
         ∙ ap ((boundary_matrix G F' x d).entry k) back
   ]
 
-  pub boundary_kept : HasKeptBoundary G F' x d (stalk_count G.rank (F.degrees x) d) o chosen
+  pub boundary_kept : HasKeptBoundary G F' x d split o chosen
   boundary_kept = record {
     boundary = record {
       rows = h.so_far.joined.rows ∙ counts;
@@ -363,28 +346,25 @@ module _ {G : Graph} {x d : ℕ} {list : TupleList} {o : Matrix} {chosen : List 
     };
     own = λ g within is_new.
         let at = is_new_one h.grown.degrees G.rank g within is_new in
-        let back : length (F.degrees x) + (g - length (F.degrees x)) ≡ g = omega (arith, at.0) in
-        let here : g - length (F.degrees x) < length chosen = omega (arith, at.0, at.1) in
-        ap (generator_place G F' x d) (sym back) ∙ new_place (g - length (F.degrees x)) here
-        ∙ ap (λ z. stalk_count G.rank (F.degrees x) d + z) (sym (place_new F' x h.grown.degrees (g - length
-        (F.degrees x)) (omega arith)) ∙ ap (source_place F' x d) back);
+        let i : ℕ = g - n in
+        let back : n + i ≡ g = omega (arith, at.0) in
+        let here : i < length chosen = omega (arith, at.0, at.1) in
+        ap (generator_place G F' x d) (sym back)
+        ∙ new_place i here
+        ∙ ap (λ z. split + z)
+        (sym (place_new F' x h.grown.degrees i (omega arith)) ∙ ap (source_place F' x d) back);
     number = λ g within is_new.
         let at = is_new_one h.grown.degrees G.rank g within is_new in
-        let back : length (F.degrees x) + (g - length (F.degrees x)) ≡ g = omega (arith, at.0) in
-        let here : g - length (F.degrees x) < length chosen = omega (arith, at.0, at.1) in
-        let number : source_place F' x d g ≡ g - length (F.degrees x) = ap (source_place F' x d) (sym back)
-        ∙ place_new F' x h.grown.degrees (g - length (F.degrees x)) (omega arith) in
+        let i : ℕ = g - n in
+        let back : n + i ≡ g = omega (arith, at.0) in
+        let here : i < length chosen = omega (arith, at.0, at.1) in
+        let number : source_place F' x d g ≡ i =
+        ap (source_place F' x d) (sym back) ∙ place_new F' x h.grown.degrees i (omega arith) in
         omega (arith, number, here);
   }
 
 pub grown_stalks : GrownStalksHaveKeptBoundaries
 grown_stalks G F F' x d list o chosen over wide columns so_far grown =
-    let h : HasGrown G x d list o chosen F F' = record {
-      over = over;
-      wide = wide;
-      columns = columns;
-      so_far =
-          so_far;
-      grown = grown;
-    } in
+    let h : HasGrown G x d list o chosen F F' =
+    record { over = over; wide = wide; columns = columns; so_far = so_far; grown = grown } in
     (joined_still h, boundary_kept h)

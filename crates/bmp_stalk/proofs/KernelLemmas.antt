@@ -1,6 +1,5 @@
 -- Kernel evidence passes on equal matrices alike.
-use Rattle.std.proofs.Common.{◌≡◌, ℕ, ◌%◌, ◌<◌, inl, inr, sym, ap, subst, ◌∙◌}
-use Rattle.std.specs.Prelude.{slice_index, length}
+use Rattle.std.proofs.Common.{ℕ, ◌%◌, ◌<◌, inl, inr, sym, ap, subst, ◌∙◌}
 use Rattle.bmp_math.specs.Matrices.{Matrix, SameMatrix}
 use Rattle.bmp_math.proofs.SameMatrices.{image_same, combination_same}
 use Rattle.bmp_linear.specs.declared.evidence.KernelEvidence.{KernelEvidence}

@@ -11,8 +11,8 @@
 --   GrowsBy s x d list chosen from to   so for each chosen tuple one of degree d, with its values as lifts, and
 --                                     behind them greater ones
 --   AreFew G F x d n                  fewer than 2^32 boundary coordinates, and stalk coordinates with n more
---   IsBuiltDegree s x d list b t      of the stalk t: up to some generator it gave the boundaries, a choice was read off
---                                     as the evidence b, and it grew by that choice
+--   IsBuiltDegree s x d list b t      of the stalk t: up to some generator it gave the boundaries, a choice was read
+--                                     off as the evidence b, and it grew by that choice
 --   BuiltDegreesPass                  then all comparisons of kernel, covers, sources and dual forms hold in the sheaf
 --                                     with the stalk t, and the evidence has the shape that is asked
 --   BuiltDegreesStay                  and later generators, of degrees above d, change nothing in this

@@ -1,4 +1,3 @@
-use Rattle.std.proofs.Common.{◌≡◌}
 use Rattle.bmp_math.proofs.SameMatrices.{numbers_below_same}
 use Rattle.bmp_linear.specs.RowTables.{matrix_of_numbers}
 use Rattle.bmp_sheaf.specs.States.{sheaf_of}

@@ -1,4 +1,4 @@
-use Rattle.std.proofs.Common.{◌≡◌, ℕ, ◌+◌, ◌<◌, length, refl, ap, subst, ◌∙◌, arith}
+use Rattle.std.proofs.Common.{◌≡◌, ℕ, ◌+◌, ◌<◌, refl, ap, subst, ◌∙◌, arith}
 use Rattle.bmp_math.specs.Matrices.{Matrix, SameMatrix}
 use Rattle.bmp_linear.specs.RowTables.{matrix_of_numbers, matrix_of_entries}
 use Rattle.bmp_linear.specs.RowVectors.{IsRowVector}
@@ -47,10 +47,9 @@ loop-i-preserved g c =
     let next : (boundary_start G F x d e + i) + 1 ≡ boundary_start G F x d e + (i + 1) = omega arith in
     record {
       rows = subst (λ n. HasRowsOf n (joined_matrix G F x d list) (matrix_of_numbers c.push_numbers.new.self)) next
-          (rows_more c.loop-i.invariant.rows
+          (rows_more {n = boundary_start G F x d e + i} {a = joined_matrix G F x d list} c.loop-i.invariant.rows
           (joined_row_is h row i inside is_row c.write_joined_row.new.numbers joined)
           c.in_ok-push_numbers.ensures.ok);
       room = c.write_joined_row.ensures.room ∙ c.loop-i.invariant.room;
       sized = c.write_joined_row.auto.numbers ∙ c.loop-i.invariant.sized;
-      work = c.read_row.auto.work ∙ c.loop-i.invariant.work;
     }

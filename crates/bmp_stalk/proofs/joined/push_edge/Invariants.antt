@@ -13,5 +13,4 @@ invariant-loop-i g l = let G = l.sheaf.graph in let F = sheaf_of l.sheaf in let 
       (matrix_of_numbers l.o);
   room : length l.s.first ≡ length l.fn.s.first;
   sized : length l.joined ≡ length l.fn.joined;
-  work : length l.work ≡ l.high.cols;
 }

@@ -1,4 +1,4 @@
-use Rattle.std.proofs.Common.{◌≡◌, ℕ, ◌+◌, ◌<◌, ◌≤◌, length, refl, sym, subst, ◌∙◌, arith}
+use Rattle.std.proofs.Common.{◌≡◌, ℕ, ◌+◌, refl, sym, subst, ◌∙◌, arith}
 use Rattle.bmp_linear.specs.RowTables.{matrix_of_numbers}
 use Rattle.bmp_graph.specs.Graph.{IsUpRange, lower}
 use Rattle.bmp_sheaf.specs.Coordinates.{boundary_start, edge_module_count}

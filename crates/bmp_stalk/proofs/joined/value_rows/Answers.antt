@@ -1,4 +1,5 @@
-use Rattle.std.proofs.Common.{◌≡◌, ◌<◌, length, arith, ◌∙◌}
+use Rattle.std.proofs.Common.{◌≡◌, length, ◌∙◌}
+use Rattle.bmp_stalk.specs.Values.{value_matrix}
 use Rattle.bmp_stalk.proofs.JoinedLemmas.{rows_more}
 use Rattle.bmp_stalk.proofs.joined.value_rows.Goals as goal
 
@@ -9,5 +10,5 @@ loop-c-preserved g c =
     c.write_values.auto.numbers ∙ c.loop-c.invariant.sized in
     record {
       sized = sized;
-      rows = rows_more c.loop-c.invariant.rows c.write_values.ensures c.in_ok-push_numbers.ensures.ok;
+      rows = rows_more {a = value_matrix list c.args.y} c.loop-c.invariant.rows c.write_values.ensures c.in_ok-push_numbers.ensures.ok;
     }

@@ -1,4 +1,4 @@
-use Rattle.std.proofs.Common.{◌≡◌, ◌<◌, sym, subst, ◌∙◌}
+use Rattle.std.proofs.Common.{◌<◌, sym, subst, ◌∙◌}
 use Rattle.bmp_stalk.proofs.JoinedLemmas.{joined_row_made}
 use Rattle.bmp_stalk.proofs.joined.write_joined_row.Goals as goal
 
