@@ -4,3 +4,7 @@ pub mod KernelLemmas
 pub mod DraftLemmas
 pub mod JoinedLemmas
 pub mod EdgeRowLemmas
+pub mod AppendedLemmas
+pub mod GrownLemmas
+pub mod UnderLemmas
+pub mod StalkLemmas
