@@ -1,28 +1,25 @@
 -- A draft that grew in memory is a draft again, and grew by the chosen tuples.
-use Rattle.std.proofs.Common.{◌≡◌, ℕ, ◌+◌, ◌-◌, ◌*◌, ◌/◌, ◌%◌, ◌<◌, ◌≤◌, true, List, [], length, get_or, inl, inr, refl, sym, ap, subst, ◌∙◌, arith}
-use Rattle.std.specs.Prelude.{slice_index, All}
+use Rattle.std.proofs.Common.{◌≡◌, ℕ, ◌+◌, ◌-◌, ◌*◌, ◌/◌, ◌%◌, ◌<◌, ◌≤◌, List, [], length, get_or, inl, inr, refl, sym, ap, subst, ◌∙◌, arith}
+use Rattle.std.specs.Prelude.{slice_index}
 use Rattle.std.proofs.Math.Nat.{mod-lt}
 use Rattle.std.proofs.lemmas.Bool.{cases_lt}
 use Rattle.std.proofs.lemmas.List.{get_or_default}
 use Rattle.std.proofs.lemmas.Nat.{div-add-mod'}
-use Rattle.bmp_linear.specs.declared.vector.Entry.{Entry}
-use Rattle.bmp_linear.specs.SparseVectors.{FitsBelow, ValuesBelow, number_at}
+use Rattle.bmp_linear.specs.SparseVectors.{FitsBelow, ValuesBelow}
 use Rattle.bmp_linear.proofs.RowVectorLemmas.{values_from_numbers}
-use Rattle.bmp_graph.specs.Graph.{Graph, IsGraph, IsAbove, IsUpRange, edge_count, lower, upper}
+use Rattle.bmp_graph.specs.Graph.{Graph, IsGraph, IsAbove, edge_count, lower, upper}
 use Rattle.bmp_graph.specs.Graph.IsAbove.{edge}
 use Rattle.bmp_graph.proofs.TableLemmas.{IsUpRange-has}
 use Rattle.bmp_sheaf.specs.Coordinates.{stalk_count}
 use Rattle.bmp_sheaf.specs.Written.{first_edge, up_count, IsUpPlace}
 use Rattle.bmp_sheaf.specs.States.{Stalk, SheafState, stalk_of}
-use Rattle.bmp_sheaf.specs.StalkFaults.{NeverFalls, IsStalk, LiftFits}
+use Rattle.bmp_sheaf.specs.StalkFaults.{NeverFalls}
 use Rattle.bmp_sheaf.proofs.UpEdges.{up_range_of}
 use Rattle.bmp_sheaf.proofs.RuleLemmas.{some, edge_number_below, is_edge}
 use Rattle.bmp_sheaf.proofs.StalkTableLemmas.{lift_inside, lift_fits}
 use Rattle.bmp_sections.specs.TupleLists.{TupleList}
-use Rattle.bmp_sections.specs.Numbers.{is_above}
 use Rattle.bmp_sections.proofs.AboveLemmas.{test_from_above}
 use Rattle.bmp_cover.specs.CoverInputs.{HasTuples, HasValues}
-use Rattle.bmp_stalk.specs.Blocks.{AreGrown}
 use Rattle.bmp_stalk.specs.Values.{IsValueOf}
 use Rattle.bmp_stalk.specs.Drafts.{lift_in, IsNext, IsDraft, IsLonger, GrowsBy}
 use Rattle.bmp_stalk.specs.Growth.{AreAppended, IsLiftOf, HoldLifts, IsGrownBy}

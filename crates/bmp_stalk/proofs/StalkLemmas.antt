@@ -1,11 +1,11 @@
 -- The blocks of the degrees that are done, and the part at the end.
-use Rattle.std.proofs.Common.{◌≡◌, ℕ, ◌+◌, ◌-◌, ◌<◌, ◌≤◌, List, [], ◌∷◌, ◌++◌, length, get_or, inl, inr, sym, ap, ap₂, subst, ◌∙◌, arith}
+use Rattle.std.proofs.Common.{◌≡◌, ℕ, ◌+◌, ◌<◌, ◌≤◌, List, [], ◌∷◌, ◌++◌, length, get_or, inl, inr, sym, ap, ap₂, subst, ◌∙◌, arith}
 use Rattle.std.proofs.lemmas.Bool.{cases_eq}
 use Rattle.std.proofs.lemmas.List.{get_or_push, get_or_append_left, get_or_default}
 use Rattle.bmp_linear.specs.declared.blocks.DegreeBlock.{DegreeBlock}
 use Rattle.bmp_graded.proofs.CoordinateLemmas.{length_more}
-use Rattle.bmp_graph.specs.Graph.{IsUpRange}
 use Rattle.bmp_sheaf.specs.Written.{up_count}
+use Rattle.bmp_sheaf.specs.StalkFaults.{IsStalk}
 use Rattle.bmp_sheaf.specs.States.{Stalk, SheafState, next_vertex, with_stalk}
 use Rattle.bmp_sections.specs.TupleLists.{TupleList}
 use Rattle.bmp_cert.specs.declared.cert.VertexPart.{VertexPart}
@@ -22,22 +22,23 @@ pub record AreBuilt {F : Type 0} (s : SheafState F) (x : ℕ) (lists : ℕ → T
 pub none_built : {F : Type 0} (s : SheafState F) (x : ℕ) (lists : ℕ → TupleList) (t : Stalk) → AreBuilt s x lists 0 [] t
 none_built s x lists t = record { counted = omega arith; each = λ e below. absurd (omega (arith, below)) }
 
-pub built_more : {F : Type 0} {s : SheafState F} {x : ℕ} {lists : ℕ → TupleList} {d : ℕ} {blocks : List DegreeBlock}
+pub built_more : {F : Type 0} {s : SheafState F} {x : ℕ} {lists : ℕ → TupleList} {d : ℕ} {blocks new : List DegreeBlock}
     {t more : Stalk} → IsNext s x → AreBuilt s x lists d blocks t →
     ((e : ℕ) → e < d → IsLonger s.graph x e t more) → (b : DegreeBlock) → IsBuiltDegree s x d (lists d) b more →
-    AreBuilt s x lists (d + 1) (blocks ++ b ∷ []) more
-built_more {F} {s} {x} {lists} {d} {blocks} {t} {more} at h longer b built = record {
-  counted = omega (arith, length_more blocks b, h.counted);
+    new ≡ blocks ++ b ∷ [] → AreBuilt s x lists (d + 1) new more
+built_more {F} {s} {x} {lists} {d} {blocks} {new} {t} {more} at h longer b built is = record {
+  counted = ap length is ∙ omega (arith, length_more blocks b, h.counted);
   each = λ e below. elim (cases_eq e d) [
     | inl last ↦
-        let own : get_or (blocks ++ b ∷ []) e no_block ≡ b =
-        get_or_push blocks b no_block e (omega (arith, last, h.counted)) in
+        let own : get_or new e no_block ≡ b =
+        ap (λ z. get_or z e no_block) is ∙ get_or_push blocks b no_block e (omega (arith, last, h.counted)) in
         subst (λ c. IsBuiltDegree s x e (lists e) c more) (sym own)
         (subst (λ k. IsBuiltDegree s x k (lists k) b more) (sym last) built)
     | inr other ↦
         let before : e < d = omega (arith, below, other) in
-        let own : get_or (blocks ++ b ∷ []) e no_block ≡ get_or blocks e no_block =
-        get_or_append_left blocks (b ∷ []) no_block e (omega (arith, before, h.counted)) in
+        let own : get_or new e no_block ≡ get_or blocks e no_block =
+        ap (λ z. get_or z e no_block) is
+        ∙ get_or_append_left blocks (b ∷ []) no_block e (omega (arith, before, h.counted)) in
         subst (λ c. IsBuiltDegree s x e (lists e) c more) (sym own)
         (built_degree_stays at (h.each e before) more (longer e before))
   ];

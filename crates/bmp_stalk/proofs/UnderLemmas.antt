@@ -1,5 +1,5 @@
 -- A sheaf in memory whose last stalk is a draft.
-use Rattle.std.proofs.Common.{◌≡◌, ℕ, ◌+◌, ◌-◌, ◌<◌, ◌≤◌, true, List, [], ◌∷◌, ◌++◌, length, take, sym, ap, subst, ◌∙◌, arith}
+use Rattle.std.proofs.Common.{◌≡◌, ℕ, ◌+◌, ◌-◌, ◌<◌, ◌≤◌, List, [], ◌∷◌, ◌++◌, length, take, sym, ap, subst, ◌∙◌, arith}
 use Rattle.std.specs.Prelude.{slice_index}
 use Rattle.std.proofs.Math.Seq.{take-append_seam}
 use Rattle.bmp_linear.specs.declared.blocks.DegreeBlock.{DegreeBlock}
@@ -8,11 +8,9 @@ use Rattle.bmp_graph.proofs.GraphLemmas.{IsAbove-higher}
 use Rattle.bmp_graded.proofs.CoordinateLemmas.{length_more}
 use Rattle.bmp_sheaf.specs.Sheaves.{SheafData}
 use Rattle.bmp_sheaf.specs.Coordinates.{stalk_count}
-use Rattle.bmp_sheaf.specs.States.{Stalk, no_stalk, SheafState, IsState, IsThere, stalk_of, next_vertex, with_stalk, sheaf_of}
-use Rattle.bmp_sheaf.specs.StalkFaults.{IsStalk}
+use Rattle.bmp_sheaf.specs.States.{Stalk, no_stalk, SheafState, IsThere, stalk_of, next_vertex, with_stalk, sheaf_of}
 use Rattle.bmp_sheaf.proofs.NewStalks.{degrees_kept}
 use Rattle.bmp_sections.specs.TupleLists.{TupleList}
-use Rattle.bmp_sections.specs.Numbers.{is_above}
 use Rattle.bmp_sections.specs.Indexes.{AboveIsThere}
 use Rattle.bmp_sections.proofs.AboveLemmas.{above_from_test}
 use Rattle.bmp_cover.specs.CoverInputs.{HasStalks, HasTuples}

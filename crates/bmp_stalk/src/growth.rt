@@ -21,8 +21,7 @@ fn grown_degrees(from: &Degrees, d: u32, count: u32) -> Result<Degrees, AllocErr
     ensures { IfOk result (AreAppended 0 (λ i b. b ≡ d) count from.now) }
 {
     let mut degrees = from.copy()?;
-    for i in 0..count {
-        let _ = i;
+    'chosen: for _ in 0..count {
         degrees.push(d)?;
     }
     Ok(degrees)

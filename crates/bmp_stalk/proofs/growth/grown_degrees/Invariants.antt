@@ -3,5 +3,5 @@ use Rattle.bmp_stalk.specs.Growth.{AreAppended}
 use Rattle.bmp_stalk.proofs.growth.grown_degrees.Given as goal
 
 -- the generators that were added
-abbrev pub invariant-loop-i : goal.invariant-loop-i
-invariant-loop-i l = AreAppended 0 (λ i b. b ≡ l.d) l.i l.from l.degrees
+abbrev pub invariant-chosen : goal.invariant-chosen
+invariant-chosen l = AreAppended 0 (λ i b. b ≡ l.d) l.counter l.from l.degrees

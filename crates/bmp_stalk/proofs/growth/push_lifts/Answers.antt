@@ -1,4 +1,4 @@
-use Rattle.std.proofs.Common.{◌≡◌, ℕ, ◌+◌, [], length, ap, subst, ◌∙◌}
+use Rattle.std.proofs.Common.{◌≡◌, ◌+◌, [], length, ap, subst, ◌∙◌}
 use Rattle.bmp_graph.specs.Graph.{upper}
 use Rattle.bmp_stalk.specs.Growth.{AreAppended, IsLiftOf}
 use Rattle.bmp_stalk.proofs.AppendedLemmas.{lifts_appended}

@@ -66,6 +66,7 @@ returns-clause-same g c =
     let past : ℕ = c.up-from.result.1 in
     let range = subst (λ h. IsUpRange h c.args.x first past) c.graph.ensures.graph c.up-from.ensures.range in
     let ends : e ≡ past = omega (arith, c.loop-e-test.false, c.loop-e.auto.e-end, range.ordered) in
-    same_from_rows
+    same_from_rows {n = boundary_start s.graph (sheaf_of s) c.args.x c.args.d e}
+    {a = joined_matrix s.graph (sheaf_of s) c.args.x c.args.d (g.T.Sections.list c.args.tuples.now)}
     (ends_at s c.args.x c.args.d c.graph.ensures.state c.requires.stalks first past range e ends)
     c.loop-e.invariant.rows

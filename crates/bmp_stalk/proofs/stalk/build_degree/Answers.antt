@@ -1,4 +1,4 @@
-use Rattle.bmp_stalk.proofs.UnderLemmas.{stalks_on, tuples_on, built_on}
+use Rattle.bmp_stalk.proofs.UnderLemmas.{stalks_on, tuples_on}
 use Rattle.bmp_stalk.proofs.GrownLemmas.{grown_is_longer}
 use Rattle.bmp_stalk.proofs.stalk.build_degree.Goals as goal
 
