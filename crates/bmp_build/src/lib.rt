@@ -7,6 +7,8 @@ pub mod laws;
 mod level;
 mod level_parts;
 mod start;
+mod version;
 mod whole;
 
+pub use version::level_version;
 pub use whole::{build, build_graph};
