@@ -17,6 +17,7 @@ use Rattle.bmp_check.specs.Accepted.{IsCheckableGraph}
 use Rattle.bmp_check.proofs.AcceptedLemmas.{job_is_checkable}
 use Rattle.bmp_build.specs.BuiltGraphs.{top_part}
 use Rattle.bmp_build.proofs.AllPassing.{top_lines}
+use Rattle.bmp_build.proofs.KeptRules.{job_is_formed}
 
 pub most_version : (l : Lattice) (v : ℕ) → IsVersionOf l v → v ≤ 3
 most_version Plain v h = omega (arith, h.1)
@@ -37,14 +38,14 @@ module _ {j : Job} {interval : Interval} {G : Graph} (prepared : ∥ IsPrepared 
   prime_is = ∥∥₁_elim prepared (ℕ_set G.prime j.prime) (λ p. p.bruhat.prime)
 
   -- by the certificate with the part of the greatest vertex alone
-  pub on_accepted : (v : ℕ) → ∥ KeepsAll rules j ∥₁ → IsWellFormedJob j → IsVersionOf j.lattice v →
+  pub on_accepted : (v : ℕ) → ∥ KeepsAll rules j ∥₁ → IsVersionOf j.lattice v →
       IsCheckableGraph G × (j.degree ≤ 6)
-  on_accepted v keeps formed version =
+  on_accepted v keeps version =
       let c : Cert = record { version = v; job = j; vertices = top_part ∷ [] } in
       let lines : HavePartLines v (j.prime - 1) j.degree (top_part ∷ []) = record {
         some = omega arith;
         few = omega arith;
         parts = (refl, (top_lines j.degree, tt));
       } in
-      let checkable = job_is_checkable c interval G (is_well_formed c version formed lines) prepared keeps in
+      let checkable = job_is_checkable c interval G (is_well_formed c version (job_is_formed j keeps) lines) prepared keeps in
       (checkable.on, checkable.degree)

@@ -8,4 +8,5 @@ pub mod HeldLemmas
 pub mod Downward
 pub mod Extending
 pub mod Beginning
+pub mod KeptRules
 pub mod Accepting

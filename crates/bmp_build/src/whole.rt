@@ -2,7 +2,6 @@
 ghost use Rattle.std.specs.Prelude.{◌≡◌, ◌≤◌, ◌-◌, IfOk};
 ghost use Rattle.bmp_cert.specs.CertGrammar.{HavePartLines, IsWellFormed};
 ghost use Rattle.bmp_cert.specs.Counts.{written_by};
-ghost use Rattle.bmp_cert.specs.JobGrammar.{IsWellFormedJob};
 ghost use Rattle.bmp_cert.specs.JobViews.{job_of, graph_of, prepared_of};
 ghost use Rattle.bmp_cert.specs.Versions.{IsVersionOf};
 ghost use Rattle.bmp_check.specs.Accepted.{IsCheckableGraph};
@@ -61,7 +60,6 @@ pub fn build(
     version: u8,
     workers: u32,
 ) -> Result<Cert, AllocError>
-    requires job { IsWellFormedJob (job_of (prepared_of a.now)) }
     requires version { IsVersionOf (job_of (prepared_of a.now)).lattice version }
     requires levels { 2 ≤ version }
     requires workers { (1 ≤ workers) × (workers ≤ 32) }
