@@ -123,5 +123,5 @@ returns-in-Levels-clause-first c =
 
 pub returns-in-Levels-clause-room : goal.returns-in-Levels-clause-room
 returns-in-Levels-clause-room c =
-    let scratch : BlockScratch = record { index = c.args.scratch.now.index; numbers = c.check_by_levels.new.numbers } in
+    let scratch : BlockScratch = record { index = c.args.scratch.now.index; numbers = c.check_by_levels.new.numbers; sums = c.args.scratch.now.sums } in
     same_room c.args.scratch.now scratch refl refl c.check_by_levels.ensures.width c.requires.room

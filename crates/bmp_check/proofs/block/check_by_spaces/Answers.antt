@@ -54,7 +54,7 @@ returns-in_err-check_kernel_at-clause-first c =
 
 pub returns-in_err-check_kernel_at-clause-room : goal.returns-in_err-check_kernel_at-clause-room
 returns-in_err-check_kernel_at-clause-room c =
-    let scratch : BlockScratch = record { index = c.fill.new.self; numbers = c.check_kernel_at.new.numbers } in
+    let scratch : BlockScratch = record { index = c.fill.new.self; numbers = c.check_kernel_at.new.numbers; sums = c.args.scratch.now.sums } in
     same_room c.args.scratch.now scratch c.fill.ensures.starts c.fill.ensures.places c.check_kernel_at.ensures.width
     c.requires.room
 
@@ -108,6 +108,6 @@ returns-clause-first c =
 
 pub returns-clause-room : goal.returns-clause-room
 returns-clause-room c =
-    let scratch : BlockScratch = record { index = c.fill.new.self; numbers = c.check_cover_at.new.numbers } in
+    let scratch : BlockScratch = record { index = c.fill.new.self; numbers = c.check_cover_at.new.numbers; sums = c.args.scratch.now.sums } in
     same_room c.args.scratch.now scratch c.fill.ensures.starts c.fill.ensures.places
     (c.check_cover_at.ensures.width ∙ c.check_kernel_at.ensures.width) c.requires.room
