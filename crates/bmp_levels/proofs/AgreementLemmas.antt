@@ -1,8 +1,7 @@
 -- Rows on the values of members, modulo the prime, and boundaries that agree.
 use Rattle.std.proofs.Common.{◌≡◌, ℕ, true, false, Bool, suc, ◌+◌, ◌-◌, ◌*◌, ◌%◌, ◌<◌, ◌≤◌, List, [], ◌∷◌, length, get_or, take, refl, sym, ap, subst, ◌∙◌, inl, inr, arith}
 use Rattle.std.specs.List.{sum_by}
-use Rattle.std.specs.Prelude.{All}
-use Rattle.std.proofs.lemmas.Bool.{cases_lt}
+use Rattle.std.proofs.lemmas.Bool.{cases_eq, cases_lt}
 use Rattle.std.proofs.lemmas.List.Sums.{sum_by_more, sum_by-cons}
 use Rattle.std.proofs.Math.Nat.{zero-mod}
 use Rattle.bmp_math.specs.Matrices.{Matrix, image}
@@ -16,7 +15,7 @@ use Rattle.bmp_linear.proofs.SparseLemmas.{sum_by-number_at}
 use Rattle.bmp_graph.specs.Graph.{Graph, IsUpRange, edge_count, lower, upper}
 use Rattle.bmp_sheaf.specs.Fields.{IsOverField}
 use Rattle.bmp_sheaf.specs.Sheaves.{SheafData, lift_of, boundary_of_element, boundary_of_tuple}
-use Rattle.bmp_sheaf.specs.Coordinates.{stalk_count, element_of, edge_module_count, boundary_count}
+use Rattle.bmp_sheaf.specs.Coordinates.{stalk_count, element_of, edge_module_count}
 use Rattle.bmp_sheaf.specs.Numbers.{on_edge, boundary_number, lower_matrix, upper_matrix}
 use Rattle.bmp_sheaf.specs.Elements.{SameElement}
 use Rattle.bmp_sheaf.proofs.EdgeMaps.{element_respects, lower_image, upper_image}
@@ -25,6 +24,8 @@ use Rattle.bmp_sheaf.proofs.BoundaryNumbers.{boundary_number_at, boundary_number
 use Rattle.bmp_sections.specs.TupleLists.{TupleList, tuples_in}
 use Rattle.bmp_sections.proofs.EquationParts.{IsTableRow}
 use Rattle.bmp_cover.specs.CoverChecks.{ComparesCover, CoverPasses}
+use Rattle.bmp_levels.specs.Lists.{first_members}
+use Rattle.bmp_levels.specs.Runs.{RunTable, FamilyTable, run_value, run_at, list_of}
 use Rattle.bmp_levels.specs.Agreement.{signed_value, signed_sum, AgreesOn, AgreesAt}
 
 -- one entry more, as the sums are made
@@ -51,33 +52,44 @@ row_and_minus p (e ∷ es) u below =
     let small : e.value < p = below 0 e (omega arith) in
     let whole : e.value + (p - e.value) ≡ p = omega (arith, small) in
     let later = row_and_minus p es u (λ k d l. below (suc k) d (omega (arith, l))) in
-    omega (
-      arith,
-      later,
-      ap (λ z. z * u e.place) whole,
-      sum_by-cons (λ (n : Entry). n.value * u n.place) e es,
-      sum_by-cons (λ (n : Entry). (p - n.value) * u n.place) e es,
-      sum_by-cons (λ (n : Entry). u n.place) e es,
-    )
+    let sums : ℕ = sum_by (λ (n : Entry). n.value * u n.place) es in
+    let minus : ℕ = signed_sum true p es u in
+    let places : ℕ = sum_by (λ (n : Entry). u n.place) es in
+    let first = sum_by-cons (λ (n : Entry). n.value * u n.place) e es in
+    let second = sum_by-cons (λ (n : Entry). (p - n.value) * u n.place) e es in
+    let third = sum_by-cons (λ (n : Entry). u n.place) e es in
+    both_more p e.value (p - e.value) (u e.place) sums minus places first second third later whole
+  where
+    both_more : (q v w n a b m : ℕ) {x y z : ℕ} → x ≡ v * n + a → y ≡ w * n + b → z ≡ n + m → a + b ≡ q * m → v + w ≡ q →
+        x + y ≡ q * z
+    both_more q v w n a b m {x = x} {y = y} {z = z} is_x is_y is_z later whole =
+        omega (arith, is_x, is_y, ap (λ t. q * t) is_z, later, ap (λ t. t * n) whole)
 
 -- what the sums are in the end
 pub rows_same :
-    (p : ℕ) (lower upper : List Entry) (u v : ℕ → ℕ) (zero first last : ℕ) → ValuesBelow lower p → zero ≡ 0 →
-    first % p ≡ (zero + signed_sum false p upper v) % p → last % p ≡ (first + signed_sum true p lower u) % p →
+    (p : ℕ) (low_row high_row : List Entry) (u v : ℕ → ℕ) (start first last : ℕ) → ValuesBelow low_row p → start ≡ 0 →
+    first % p ≡ (start + signed_sum false p high_row v) % p → last % p ≡ (first + signed_sum true p low_row u) % p →
     last % p ≡ 0 →
-    sum_by (λ e. e.value * u e.place) lower % p ≡ sum_by (λ e. e.value * v e.place) upper % p
-rows_same p lower upper u v zero first last below is_zero is_first is_last none =
-    let low : ℕ = sum_by (λ e. e.value * u e.place) lower in
-    let minus : ℕ = signed_sum true p lower u in
-    let high : ℕ = sum_by (λ e. e.value * v e.place) upper in
-    let places : ℕ = sum_by (λ e. u e.place) lower in
-    let both : sum_by (λ e. e.value * u e.place) lower + signed_sum true p lower u ≡ 0 + p * sum_by (λ e. u e.place) lower =
-    row_and_minus p lower u below in
-    let start : first % p ≡ sum_by (λ e. e.value * v e.place) upper % p =
-    is_first ∙ ap (λ z. (z + signed_sum false p upper v) % p) is_zero in
+    sum_by (λ e. e.value * u e.place) low_row % p ≡ sum_by (λ e. e.value * v e.place) high_row % p
+rows_same p low_row high_row u v start first last below is_start is_first is_last none =
+    let low : ℕ = sum_by (λ e. e.value * u e.place) low_row in
+    let minus : ℕ = signed_sum true p low_row u in
+    let high : ℕ = sum_by (λ e. e.value * v e.place) high_row in
+    let places : ℕ = sum_by (λ e. u e.place) low_row in
+    let both : sum_by (λ e. e.value * u e.place) low_row + signed_sum true p low_row u ≡ p * sum_by (λ e. u e.place) low_row =
+    row_and_minus p low_row u below in
+    let begun : first % p ≡ sum_by (λ e. e.value * v e.place) high_row % p =
+    is_first ∙ ap (λ z. z % p) (nothing_before start (signed_sum false p high_row v) is_start) in
     same_cancel p low high minus
-    (ap (λ z. z % p) both ∙ same_past p 0 places ∙ zero-mod p ∙ sym none ∙ is_last
-    ∙ same_add p first high minus minus start refl)
+    (ap (λ z. z % p) both ∙ multiple places ∙ sym none ∙ is_last
+    ∙ same_add p first high minus minus begun refl)
+  where
+    nothing_before : (a b : ℕ) → a ≡ 0 → a + b ≡ b
+    nothing_before a b none = omega (arith, none)
+
+    multiple : (k : ℕ) → (p * k) % p ≡ 0
+    multiple k = let padded : 0 + p * k ≡ p * k = omega arith in
+        sym (ap (λ z. z % p) padded) ∙ same_past p 0 k ∙ zero-mod p
 
 -- a row of a table on numbers is that of the matrix
 row_image :
@@ -109,6 +121,31 @@ values_agree G over F d e i is_edge list j low high inside first second same =
     ∙ ap (λ z. z % G.prime) (row_image G.prime (upper_matrix G F d e) i high v second)
     ∙ upper_image G over F d e is_edge v i inside
 
+-- one coordinate on an edge
+abbrev pub AgreesInRow : (G : Graph) (F : SheafData) (d e : ℕ) → TupleList → ℕ → Type 0
+AgreesInRow G F d e list i =
+    (j : ℕ) → j < list.count →
+    on_edge G F d e (lift_of G F e d (tuples_in G F d list j (lower G e))) i
+    ≡ on_edge G F d e (tuples_in G F d list j (upper G e)) i
+
+-- the same as the runs and the prime are read
+pub row_agrees :
+    (G : Graph) (over : IsOverField G) (F : SheafData) (d e i : ℕ) (is_edge : e < edge_count G) (f : FamilyTable)
+    (n : ℕ) {low high : RunTable} {p : ℕ} → low ≡ run_at f (lower G e) → high ≡ run_at f (upper G e) → p ≡ G.prime →
+    (low_row high_row : List Entry) → i < edge_module_count G F d e →
+    IsTableRow G.prime (lower_matrix G F d e) i low_row → IsTableRow G.prime (upper_matrix G F d e) i high_row →
+    ((j : ℕ) → j < n → sum_by (λ r. r.value * run_value low j r.place) low_row % p
+    ≡ sum_by (λ r. r.value * run_value high j r.place) high_row % p) →
+    AgreesInRow G F d e (first_members n (list_of f)) i
+row_agrees G over F d e i is_edge f n {low = low} {high = high} {p = p} is_low is_high prime low_row high_row inside
+    first second same j member =
+    values_agree G over F d e i is_edge (first_members n (list_of f)) j low_row high_row inside first second
+    (sym (ap (λ (t : RunTable). sum_by (λ (r : Entry). r.value * run_value t j r.place) low_row % G.prime) is_low)
+    ∙ sym (ap (λ q. sum_by (λ (r : Entry). r.value * run_value low j r.place) low_row % q) prime)
+    ∙ same j member
+    ∙ ap (λ q. sum_by (λ (r : Entry). r.value * run_value high j r.place) high_row % q) prime
+    ∙ ap (λ (t : RunTable). sum_by (λ (r : Entry). r.value * run_value t j r.place) high_row % G.prime) is_high)
+
 -- on all edges going up from x
 pub agrees_at :
     (G : Graph) (F : SheafData) (x d from to : ℕ) (list : TupleList) → IsUpRange G x from to →
@@ -121,7 +158,7 @@ agrees_at G F x d from to list range each j k member =
     (λ e i is_edge starts inside.
     boundary_number_at G F x d own e i is_edge starts inside
     ∙ ap (λ y. on_edge G F d e (lift_of G F e d (tuples_in G F d list j y)) i) (sym starts)
-    ∙ each e (from_on e is_edge starts) (before_end e is_edge starts) j i member inside
+    ∙ each e (from_on e is_edge starts) (before_end e is_edge starts) i j inside member
     ∙ sym (boundary_number_at G F x d above e i is_edge starts inside)) k
   where
     from_on : (e : ℕ) → e < edge_count G → lower G e ≡ x → from ≤ e
@@ -159,3 +196,11 @@ agreeing_covers G over F x d list e wide agree values r c =
     r.place c.place
     ∙ agree j r.place c.tuple c.place
     ∙ sym c.right_is
+
+-- one number more in a range
+pub range_more :
+    (P : ℕ → Type 0) (from n : ℕ) → ((e : ℕ) → from ≤ e → e < n → P e) → P n → (e : ℕ) → from ≤ e → e < n + 1 → P e
+range_more P from n before here e past below = elim (cases_eq e n) [
+  | inl same ↦ subst P (sym same) here
+  | inr other ↦ before e past (omega (arith, below, other))
+]

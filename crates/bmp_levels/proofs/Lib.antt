@@ -22,3 +22,4 @@ pub mod CountLemmas
 pub mod RemainderLemmas
 pub mod AgreementLemmas
 pub mod OwnValues
+pub mod SumsLemmas

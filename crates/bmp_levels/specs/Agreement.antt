@@ -26,7 +26,7 @@ signed_sum minus p es u = sum_by (λ e. signed_value minus p e.value * u e.place
 module _ (G : Graph) (F : SheafData) where
   abbrev pub AgreesOn : ℕ → ℕ → TupleList → Type 0
   AgreesOn e d list =
-      (j i : ℕ) → j < list.count → i < edge_module_count G F d e →
+      (i j : ℕ) → i < edge_module_count G F d e → j < list.count →
       on_edge G F d e (lift_of G F e d (tuples_in G F d list j (lower G e))) i
       ≡ on_edge G F d e (tuples_in G F d list j (upper G e)) i
 

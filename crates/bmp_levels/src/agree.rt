@@ -1,19 +1,27 @@
 //! Whether the values of members at a vertex have the boundaries of the members: of all members at once.
-ghost use Rattle.std.specs.Prelude.{◌≡◌, ℕ, ◌+◌, ◌%◌, ◌<◌, ◌≤◌, IsTrue, length, slice_index, sum_by};
+ghost use Rattle.std.specs.Prelude.{◌≡◌, ℕ, ◌+◌, ◌*◌, ◌%◌, ◌<◌, ◌≤◌, IsTrue, length, slice_index, sum_by};
 ghost use Rattle.bmp_linear.specs.SparseVectors.{FitsBelow, ValuesBelow};
 ghost use Rattle.bmp_graph.specs.Graph.{edge_count, lower, upper};
 ghost use Rattle.bmp_sheaf.specs.States.{IsThere, sheaf_of};
 ghost use Rattle.bmp_cover.specs.CoverInputs.{HasStalks, HasValues, HasTuples};
-ghost use Rattle.bmp_levels.specs.Agreement.{AreWithin, signed_sum, AgreesOn, AgreesAt};
+ghost use Rattle.bmp_levels.specs.Agreement.{AreWithin, signed_value, signed_sum, AgreesOn, AgreesAt};
 ghost use Rattle.bmp_levels.specs.Lists.{first_members};
 ghost use Rattle.bmp_levels.specs.Runs.{run_value, list_of};
 
 use crate::members::Members;
 use crate::run::Run;
-use crate::sums::{add_reduced, are_multiples};
+use crate::sums::{add_reduced, are_multiples, clear};
 use bmp_field::Field;
 use bmp_linear::{Entry, Rows};
 use bmp_sheaf::Sheaf;
+
+/// The value of an entry, or minus it modulo the prime.
+fn signed(p: u8, minus: bool, value: u8) -> u8
+    requires { value < p }
+    ensures { result ≡ signed_value minus p value }
+{
+    if minus { p - value } else { value }
+}
 
 /// Adds a row on the values at a vertex to the sums, or minus it, modulo the prime: one sum for each member. No sum was
 /// above `most`, and none is above the result.
@@ -30,7 +38,7 @@ fn add_row(p: u8, minus: bool, run: &Run, row: &[Entry], most: u32, sums: &mut [
 {
     let mut room = most;
     for entry in row {
-        let factor = if minus { p - entry.value } else { entry.value };
+        let factor = signed(p, minus, entry.value);
         let numbers = run.first(entry.place, sums.len());
         room = add_reduced(p, room, factor, numbers, sums);
     }
@@ -58,7 +66,7 @@ fn rows_agree(
         ≡ sum_by (λ e. e.value * run_value high.now j e.place) upper.now % p }
     ensures sums { length sums.new ≡ length sums.old }
 {
-    sums.fill(0);
+    clear(sums);
     let most = add_row(p, false, high, upper, 0, sums);
     add_row(p, true, low, lower, most, sums);
     are_multiples(p, sums)

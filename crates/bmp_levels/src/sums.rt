@@ -1,9 +1,9 @@
-//! Sums of multiples of numbers below a prime, one sum for each member. They have sixteen bits, and are replaced by their
-//! remainders before one could pass these.
+//! Sums of multiples of numbers below a prime, one sum for each member. They have sixteen bits, and are replaced by
+//! their remainders before one could pass these.
 //!
-//! Each loop is free of divisions and of tests that leave it, so that it runs on many numbers at once. None is inlined: in
-//! a loop over entries the compiler would ask at each whether the numbers are apart from the sums.
-ghost use Rattle.std.specs.Prelude.{◌≡◌, ℕ, ◌+◌, ◌*◌, ◌/◌, ◌%◌, ◌^◌, ◌<◌, ◌≤◌, IsTrue, length, slice_index};
+//! Each loop is free of divisions and of tests that leave it, so that it runs on many numbers at once. None is inlined:
+//! in a loop over entries the compiler would ask at each whether the numbers are apart from the sums.
+ghost use Rattle.std.specs.Prelude.{◌≡◌, ℕ, ◌+◌, ◌*◌, ◌/◌, ◌%◌, ◌^◌, ◌<◌, ◌≤◌, IsTrue, EachIndex, length, slice_index};
 ghost use Rattle.bmp_levels.specs.Agreement.{AreWithin};
 
 /// The remainder of a sum, by a reciprocal of 16 bits, which gives the quotient or one less.
@@ -33,6 +33,14 @@ fn reduce(p: u8, sums: &mut [u16])
     for sum in sums.iter_mut() {
         *sum = remainder(p, reciprocal, *sum);
     }
+}
+
+/// Writes 0 everywhere.
+pub(crate) fn clear(sums: &mut [u16])
+    ensures zeros { EachIndex sums.new (λ j. slice_index sums.new j ≡ 0) }
+    ensures sums { length sums.new ≡ length sums.old }
+{
+    sums.fill(0);
 }
 
 /// Adds `factor` times the numbers to as many of the sums.
