@@ -175,6 +175,12 @@ module _
   shorter : suc (length_at G x) ≤ length_at G (top_vertex G)
   shorter = whole.checkable.on.last_is_top.longest x (omega (arith, block.0)) (λ same. omega (arith, same, block.0))
 
+  pub members_room : {n room : ℕ} → n ≡ length own.cover.covers → (counts_at G (method_of v) c x d).tuples ≤ room →
+      n ≤ room
+  members_room {room = room} counted enough =
+      let fits = subst (λ (m : Method). (counts_at G m c x d).tuples ≤ room) levels enough in
+      omega (arith, counted, covers_are, fits)
+
   module _ (f : FamilyTable) (holds : HoldsFamilies G c d f) where
     pub members_there : {n : ℕ} → n ≡ length own.cover.covers → n ≤ f.count
     members_there counted = let few = (holds (suc (length_at G x)) shorter).0 in omega (arith, few, counted, covers_are)

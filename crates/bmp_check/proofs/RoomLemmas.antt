@@ -30,7 +30,7 @@ pub within_more :
     (G : Graph) (m : Method) (c : Written) (n D i : ℕ) {a b e rows most sections : ℕ} → a ≤ rows → b ≤ most →
     e ≤ sections → HoldsBefore (IsWithin G m c a b e) n D i → HoldsBefore (IsWithin G m c rows most sections) n D i
 within_more G m c n D i few small short holds k below =
-    let h = holds k below in (omega (arith, h.0, few), omega (arith, h.1.0, small), omega (arith, h.1.1, short))
+    let h = holds k below in (omega (arith, h.0, few), omega (arith, h.1, small), omega (arith, h.2, short))
 
 pub same_width : {G : Graph} {m : Method} {c : Written} {a b : ℕ} → b ≡ a → HasWidth G m c a → HasWidth G m c b
 same_width {G = G} {m = m} {c = c} same width = subst (HasWidth G m c) (sym same) width

@@ -5,8 +5,8 @@
 --                           its sheaf
 --   HasWidth G m c n        n is no less than the largest size of each block, and than each number of coordinates of a
 --                           stalk and of a boundary
---   IsRoomFor G m c scratch the scratch has numbers of such a width, by whole spaces room for the equations of each block,
---                           and by levels a sum for each of its sections
+--   IsRoomFor G m c scratch the scratch has numbers of such a width, by whole spaces room for the equations of each
+--                           block, and by levels a sum for each of its sections
 use Rattle.std.specs.Prelude.{◌≡◌, ℕ, ◌<◌, ◌≤◌, length, map}
 use Rattle.bmp_graph.specs.Graph.{Graph, vertex_count}
 use Rattle.bmp_sheaf.specs.Coordinates.{stalk_count, boundary_count}

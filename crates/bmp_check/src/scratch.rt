@@ -16,8 +16,8 @@ use bmp_linear::Scratch;
 use bmp_sections::SectionIndex;
 use std::alloc::{AllocError, Global};
 
-/// Room for the check of any block of a certificate: where its positions and equations stand by whole spaces, two rows of
-/// numbers, and by levels a sum for each member of a family.
+/// Room for the check of any block of a certificate: where its positions and equations stand by whole spaces, two rows
+/// of numbers, and by levels a sum for each member of a family.
 #[derive(Debug, Drop)]
 pub struct BlockScratch {
     pub index: SectionIndex,

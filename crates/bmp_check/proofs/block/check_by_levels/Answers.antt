@@ -1,4 +1,5 @@
 use Rattle.std.proofs.Common.{◌≡◌, ◌↔◌, ◌∙◌, sym, ap, subst}
+use Rattle.std.proofs.lemmas.List.{length-take-le}
 use Rattle.std.proofs.lemmas.Result.{err_from_is_err_and, on_ok_weaker, MatchResult-weaker}
 use Rattle.bmp_field.specs.declared.prime.PrimeField.{PrimeField}
 use Rattle.bmp_sheaf.specs.States.{SheafState, sheaf_of}
@@ -13,7 +14,7 @@ use Rattle.bmp_check.specs.BlockData.{block_of, matrix_at, tuples_at}
 use Rattle.bmp_check.specs.PartsSheaf.{parts_sheaf}
 use Rattle.bmp_check.specs.ShapedViews.{graph_in, cert_in}
 use Rattle.bmp_check.specs.Verdicts.{CoverComparesAt}
-use Rattle.bmp_check.proofs.FamilyLemmas.{members_there, members_same, members_own, members_known, member_tuples, same_comparisons}
+use Rattle.bmp_check.proofs.FamilyLemmas.{members_room, members_there, members_same, members_own, members_known, member_tuples, same_comparisons}
 use Rattle.bmp_check.proofs.InputLemmas.{at_block, read_at, read_there, read_block, has_stalks, boundaries_are, boundaries_read}
 use Rattle.bmp_check.proofs.RefusalLemmas.{cover_first, kernel_second}
 use Rattle.bmp_check.proofs.block.check_by_levels.Goals as goal
@@ -28,6 +29,26 @@ members-members-requires c =
     let is = read_block c.args.x c.args.d c.given.ensures c.part_of.ensures c.block_of-block.ensures in
     members_there c.requires.whole c.requires.method c.args.x c.args.d c.requires.block is c.args.family.now
     c.requires.family c.len-count.ensures
+
+pub slice_bounds-agree_at-end : goal.slice_bounds-agree_at-end
+slice_bounds-agree_at-end c =
+    let is = read_block c.args.x c.args.d c.given.ensures c.part_of.ensures c.block_of-block.ensures in
+    members_room c.requires.whole c.requires.method c.args.x c.args.d c.requires.block is c.len-count.ensures
+    c.requires.sums
+
+pub slice_bounds-agree_at-end-2 : goal.slice_bounds-agree_at-end-2
+slice_bounds-agree_at-end-2 c =
+    let is = read_block c.args.x c.args.d c.given.ensures c.part_of.ensures c.block_of-block.ensures in
+    let enough = members_room c.requires.whole c.requires.method c.args.x c.args.d c.requires.block is c.len-count.ensures
+    c.requires.sums in
+    sym (length-take-le c.len-count.result c.args.sums.now enough)
+
+pub agree_at-known-requires-clause-sums : goal.agree_at-known-requires-clause-sums
+agree_at-known-requires-clause-sums c =
+    let is = read_block c.args.x c.args.d c.given.ensures c.part_of.ensures c.block_of-block.ensures in
+    let enough = members_room c.requires.whole c.requires.method c.args.x c.args.d c.requires.block is c.len-count.ensures
+    c.requires.sums in
+    length-take-le c.len-count.result c.args.sums.now enough ∙ sym c.members-members.ensures.count
 
 pub agree_at-known-requires-clause-stalks : goal.agree_at-known-requires-clause-stalks
 agree_at-known-requires-clause-stalks c =

@@ -67,7 +67,7 @@ returns-clause-sizes c =
     let bound : D ≡ cert.degree = ap (λ (g : Given). g.degree) c.given-given.ensures in
     λ x d block.
     (blocks_all G cert (IsWithin G m cert c.each.rows c.each.most c.each.sections) n D c.each.i vertices bound c.each.invariant
-    (omega (arith, c.each-test.false, c.block_count-i-end.ensures.count)) x d block).1.0
+    (omega (arith, c.each-test.false, c.block_count-i-end.ensures.count)) x d block).1
 
 pub returns-clause-sections : goal.returns-clause-sections
 returns-clause-sections c =
@@ -81,4 +81,4 @@ returns-clause-sections c =
     let bound : D ≡ cert.degree = ap (λ (g : Given). g.degree) c.given-given.ensures in
     λ x d block.
     (blocks_all G cert (IsWithin G m cert c.each.rows c.each.most c.each.sections) n D c.each.i vertices bound c.each.invariant
-    (omega (arith, c.each-test.false, c.block_count-i-end.ensures.count)) x d block).1.1
+    (omega (arith, c.each-test.false, c.block_count-i-end.ensures.count)) x d block).2
