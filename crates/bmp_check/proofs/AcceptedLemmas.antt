@@ -1,5 +1,5 @@
 -- What an accepted certificate writes can be checked on the graph of its job.
-use Rattle.std.proofs.Common.{◌≡◌, ℕ, zero, suc, ◌+◌, ◌-◌, ◌<◌, ◌≤◌, Bool, true, false, IsTrue, List, [], ◌∷◌, ◌++◌, length, get_or, refl, sym, ap, subst, ◌∙◌, inl, inr, arith, true≢false}
+use Rattle.std.proofs.Common.{◌≡◌, ℕ, zero, suc, ◌+◌, ◌-◌, ◌<◌, ◌≤◌, Bool, true, IsTrue, List, [], ◌∷◌, length, get_or, refl, sym, ap, subst, ◌∙◌, inl, inr, arith}
 use Rattle.std.proofs.Math.Logic.{∥∥₁_elim}
 use mathlib.Core.Bool.{Bool-set}
 use native.Mathlib.Nat.{ℕ_set}
@@ -33,7 +33,7 @@ use Rattle.bmp_cert.specs.declared.cert.Cert.{Cert}
 use Rattle.bmp_cert.specs.CertGrammar.{HavePartLines, IsWellFormed}
 use Rattle.bmp_cert.specs.Counts.{written_by}
 use Rattle.bmp_check.specs.BlockData.{top_vertex}
-use Rattle.bmp_check.specs.Accepted.{IsAccepted, IsCheckableGraph, IsCheckable, AcceptedIsCheckable}
+use Rattle.bmp_check.specs.Accepted.{IsCheckableGraph, IsCheckable, AcceptedIsCheckable}
 
 -- ---- the greatest element of an interval
 

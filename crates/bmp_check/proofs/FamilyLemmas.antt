@@ -14,9 +14,11 @@ use Rattle.bmp_sheaf.specs.States.{SheafState, sheaf_of}
 use Rattle.bmp_sections.specs.Sections.{above}
 use Rattle.bmp_sections.specs.TupleLists.{TupleList}
 use Rattle.bmp_cover.specs.BradenMacPherson.{IsTopVertex}
-use Rattle.bmp_cover.specs.CoverChecks.{CoverCompares}
-use Rattle.bmp_cover.specs.CoverInputs.{HasTuples}
+use Rattle.bmp_sheaf.specs.Fields.{IsOverField}
+use Rattle.bmp_cover.specs.CoverChecks.{ComparesCover, CoverCompares, CoverPasses}
+use Rattle.bmp_cover.specs.CoverInputs.{HasValues, HasTuples}
 use Rattle.bmp_cover.specs.declared.fault.CoverFault.{CoverFault}
+use Rattle.bmp_levels.specs.Agreement.{AgreesAt}
 use Rattle.bmp_levels.specs.Levels.{level_vertices}
 use Rattle.bmp_levels.specs.Lists.{first_members, SameList}
 use Rattle.bmp_levels.specs.Runs.{FamilyTable, list_of}
@@ -26,6 +28,7 @@ use Rattle.bmp_levels.specs.Extensions.{HasTop, AllFit}
 use Rattle.bmp_levels.proofs.Families.{family_size}
 use Rattle.bmp_levels.proofs.Comparing.{comparisons_agree}
 use Rattle.bmp_levels.proofs.Below.{has_tuples}
+use Rattle.bmp_levels.proofs.OwnValues.{HasOwn, own_values, own_covers}
 use Rattle.bmp_cert.specs.Counts.{Written, part_of}
 use Rattle.bmp_check.specs.declared.degree_blocks.DegreeBlocks.{DegreeBlocks}
 use Rattle.bmp_check.specs.declared.method.Method.{Method}
@@ -40,7 +43,7 @@ use Rattle.bmp_check.specs.PartsSheaf.{parts_sheaf}
 use Rattle.bmp_check.specs.Shaped.{IsShaped}
 use Rattle.bmp_check.specs.declared.setting.Setting.{Setting}
 use Rattle.bmp_check.specs.declared.shaped.Shaped.{Shaped}
-use Rattle.bmp_check.specs.Settings.{no_family, HoldsFamilies, AreFamilies, shaped_in, IsSet}
+use Rattle.bmp_check.specs.Settings.{no_family, family_from, HoldsFamilies, AreFamilies, shaped_in, IsSet}
 use Rattle.bmp_check.specs.ShapedViews.{written_in, graph_in, method_at, cert_in, IsWhole}
 use Rattle.bmp_check.specs.Verdicts.{HasBlock, TopPasses, CoverComparesAt}
 use Rattle.bmp_check.proofs.InputLemmas.{IsAtBlock, at_block, prime_is, has_stalks}
@@ -172,6 +175,12 @@ module _
   shorter : suc (length_at G x) ≤ length_at G (top_vertex G)
   shorter = whole.checkable.on.last_is_top.longest x (omega (arith, block.0)) (λ same. omega (arith, same, block.0))
 
+  pub members_room : {n room : ℕ} → n ≡ length own.cover.covers → (counts_at G (method_of v) c x d).tuples ≤ room →
+      n ≤ room
+  members_room {room = room} counted enough =
+      let fits = subst (λ (m : Method). (counts_at G m c x d).tuples ≤ room) levels enough in
+      omega (arith, counted, covers_are, fits)
+
   module _ (f : FamilyTable) (holds : HoldsFamilies G c d f) where
     pub members_there : {n : ℕ} → n ≡ length own.cover.covers → n ≤ f.count
     members_there counted = let few = (holds (suc (length_at G x)) shorter).0 in omega (arith, few, counted, covers_are)
@@ -186,6 +195,46 @@ module _
         (subst (λ (g : FamilyTable). SameList (level_vertices G (suc (length_at G x)))
         (first_members (family_at G c x d).count (list_of g)) (family_at G c x d)) (sym family)
         (holds (suc (length_at G x)) shorter).1)
+
+    -- the values at x itself
+    written_own : {m n : ℕ} {h : FamilyTable} → m ≡ n → h ≡ f → n ≡ length own.cover.covers →
+        HasOwn G (parts_sheaf G c) x d m (top_vertex G) (λ y. block_of c y d) (first_members
+        (family_from G c d (length_at G x)).count (list_of h))
+    written_own {m = m} {n = n} {h = h} number family counted =
+        let k = length_at G x in
+        let low : length_at G x ≤ length_at G (top_vertex G) = omega (arith, shorter) in
+        let count : m ≡ (family_at G c x d).count = number ∙ counted ∙ covers_are in
+        record {
+          vertex = omega (arith, block.0);
+          shorter = omega (arith, shorter);
+          few = omega (arith, count);
+          same = subst (λ (g : FamilyTable). SameList (level_vertices G (length_at G x))
+              (first_members (family_from G c d (length_at G x)).count (list_of g)) (family_from G c d (length_at G x)))
+              (sym family) (holds k low).1;
+        }
+
+    memory_own : {m n : ℕ} {h : FamilyTable} → m ≡ n → h ≡ f → n ≡ length own.cover.covers →
+        HasOwn s.graph (sheaf_of s) x d m (vertex_count s.graph - 1) (λ y. block_of c y d) (first_members
+        (family_from G c d (length_at G x)).count (list_of h))
+    memory_own {m = m} {h = h} number family counted =
+        kept whole levels (λ (H : Graph) (S : SheafData). HasOwn H S x d m (vertex_count H - 1) (λ y. block_of c y d)
+        (first_members (family_from G c d (length_at G x)).count (list_of h)))
+        (written_own number family counted)
+
+    pub members_own : {m n : ℕ} {h : FamilyTable} → m ≡ n → h ≡ f → n ≡ length own.cover.covers →
+        HasValues s d (first_members m (list_of h)) x
+    members_own number family counted =
+        own_values
+        (kept whole levels (λ (H : Graph) (S : SheafData). 2 ≤ H.prime) (over_field whole.checkable.on).two)
+        (blocks_below whole levels d block.1) (memory_own number family counted)
+
+    pub members_known : {m n : ℕ} {h : FamilyTable} → m ≡ n → h ≡ f → n ≡ length own.cover.covers →
+        AgreesAt s.graph (sheaf_of s) x d (first_members m (list_of h)) →
+        CoverPasses (ComparesCover s.graph (sheaf_of s) x d (first_members m (list_of h)) (block_of c x d).cover)
+    members_known number family counted =
+        own_covers (memory_own number family counted)
+        (kept whole levels (λ (H : Graph) (S : SheafData). IsOverField H) (over_field whole.checkable.on))
+        (kept whole levels (λ (H : Graph) (S : SheafData). H.rank ≤ 6) whole.checkable.on.few_variables)
 
 -- ---- the families that are made
 

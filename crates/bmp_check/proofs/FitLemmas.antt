@@ -21,7 +21,7 @@ use Rattle.bmp_check.specs.declared.method.Method.TheVariants.{Spaces, Levels}
 use Rattle.bmp_check.specs.declared.sizes.BlockSizes.{BlockSizes}
 use Rattle.bmp_check.specs.Methods.{method_of}
 use Rattle.bmp_check.specs.BlockData.{block_of}
-use Rattle.bmp_check.specs.Sizes.{Size, is, at_most, listed, lift_size, vertex_sizes, each_at_most, counts_at, largest, limit, pivot_sizes, kernel_sizes, cover_sizes, last_size, block_sizes, shape_sizes, size_comparison, numbered}
+use Rattle.bmp_check.specs.Sizes.{Size, is, listed, lift_size, vertex_sizes, each_at_most, counts_at, largest, limit, pivot_sizes, kernel_sizes, cover_sizes, last_size, block_sizes, shape_sizes, size_comparison, numbered}
 use Rattle.bmp_check.specs.Verdicts.{HasBlock, CountPasses, ShapePasses}
 use Rattle.bmp_check.specs.Fits.{IsVectorIn, DegreesFit, VertexFits, EvidenceIn, BlockFits, ShapesFit, ShapeGivesFits}
 use Rattle.bmp_check.proofs.NeedLemmas.{fits_from_need, below_from_need}

@@ -1,5 +1,5 @@
 -- What the checks of a block are given, and what they answer, of the sheaf in memory and of the written one.
-use Rattle.std.proofs.Common.{◌≡◌, ◌≢◌, ◌↔◌, ℕ, ◌+◌, ◌<◌, ◌≤◌, ◌^◌, max, List, [], length, get_or, refl, sym, ap, ap₂, subst, ◌∙◌, arith}
+use Rattle.std.proofs.Common.{◌≡◌, ◌≢◌, ◌↔◌, ℕ, ◌+◌, ◌<◌, ◌≤◌, ◌^◌, List, [], length, get_or, refl, sym, ap, ap₂, subst, ◌∙◌, arith}
 use Rattle.std.specs.List.{All}
 use Rattle.std.proofs.lemmas.List.Elements.{All-weaker, All-get_or}
 use Rattle.bmp_field.specs.declared.prime.PrimeField.{PrimeField}
@@ -10,7 +10,7 @@ use Rattle.bmp_linear.specs.declared.blocks.DegreeBlock.{DegreeBlock}
 use Rattle.bmp_linear.specs.SparseVectors.{FitsBelow, ValuesBelow}
 use Rattle.bmp_linear.specs.Evidence.{EvidenceFits, EvidenceBelow}
 use Rattle.bmp_linear.proofs.SparseLemmas.{number_at-below}
-use Rattle.bmp_graph.specs.Graph.{Graph, IsGraph, vertex_count}
+use Rattle.bmp_graph.specs.Graph.{Graph, vertex_count}
 use Rattle.bmp_sheaf.specs.Fields.{IsOverField}
 use Rattle.bmp_sheaf.specs.Sheaves.{SheafData}
 use Rattle.bmp_sheaf.specs.Coordinates.{stalk_count, boundary_count}
@@ -40,7 +40,7 @@ use Rattle.bmp_check.specs.Fits.{IsVectorIn, ShapesFit, BlockFits}
 use Rattle.bmp_check.specs.Shaped.{IsSheafOf, IsShaped, HasWidth, IsRoomFor}
 use Rattle.bmp_check.specs.ShapedViews.{written_in}
 use Rattle.bmp_check.specs.PartsSheaf.{parts_sheaf}
-use Rattle.bmp_check.specs.Sizes.{counts_at, largest}
+use Rattle.bmp_check.specs.Sizes.{counts_at}
 use Rattle.bmp_check.specs.Verdicts.{HasBlock, CountPasses, kernel_refusal, CoverComparesAt}
 use Rattle.bmp_check.specs.declared.refusal.Refusal.{Refusal}
 use Rattle.bmp_check.proofs.CheckableLemmas.{over_field}

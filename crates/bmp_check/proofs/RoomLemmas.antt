@@ -22,14 +22,15 @@ use Rattle.bmp_check.proofs.BlockLemmas.{HoldsBefore}
 use Rattle.bmp_check.proofs.SheafLemmas.{as_written, is_there}
 
 -- the sizes of a block are within these numbers
-abbrev pub IsWithin : Graph → Method → Written → ℕ → ℕ → ℕ → ℕ → Type 0
-IsWithin G m c rows most x d = let n = counts_at G m c x d in (n.rows ≤ rows) × (largest n ≤ most)
+abbrev pub IsWithin : Graph → Method → Written → ℕ → ℕ → ℕ → ℕ → ℕ → Type 0
+IsWithin G m c rows most sections x d =
+    let n = counts_at G m c x d in (n.rows ≤ rows) × (largest n ≤ most) × (n.tuples ≤ sections)
 
 pub within_more :
-    (G : Graph) (m : Method) (c : Written) (n D i a b rows most : ℕ) → a ≤ rows → b ≤ most →
-    HoldsBefore (IsWithin G m c a b) n D i → HoldsBefore (IsWithin G m c rows most) n D i
-within_more G m c n D i a b rows most few small holds k below =
-    let h = holds k below in (omega (arith, h.0, few), omega (arith, h.1, small))
+    (G : Graph) (m : Method) (c : Written) (n D i : ℕ) {a b e rows most sections : ℕ} → a ≤ rows → b ≤ most →
+    e ≤ sections → HoldsBefore (IsWithin G m c a b e) n D i → HoldsBefore (IsWithin G m c rows most sections) n D i
+within_more G m c n D i few small short holds k below =
+    let h = holds k below in (omega (arith, h.0, few), omega (arith, h.1, small), omega (arith, h.2, short))
 
 pub same_width : {G : Graph} {m : Method} {c : Written} {a b : ℕ} → b ≡ a → HasWidth G m c a → HasWidth G m c b
 same_width {G = G} {m = m} {c = c} same width = subst (HasWidth G m c) (sym same) width
@@ -39,11 +40,12 @@ pub same_room :
     {G : Graph} {m : Method} {c : Written} (s t : BlockScratch) →
     length t.index.starts.items ≡ length s.index.starts.items →
     length t.index.places.items ≡ length s.index.places.items → length t.numbers.first ≡ length s.numbers.first →
-    IsRoomFor G m c s → IsRoomFor G m c t
-same_room s t starts places numbers room = record {
+    length t.sums.items ≡ length s.sums.items → IsRoomFor G m c s → IsRoomFor G m c t
+same_room s t starts places numbers sums room = record {
   width = same_width numbers room.width;
   vertices = λ spaces. let h = room.vertices spaces in omega (arith, h, starts);
   equations = λ spaces x d block. let h = room.equations spaces x d block in omega (arith, h, places);
+  sums = λ levels x d block. let h = room.sums levels x d block in omega (arith, h, sums);
 }
 
 -- room for the coordinates of the sheaf in memory, for larger numbers and for the written sheaf
@@ -70,14 +72,14 @@ module _ {G H : Graph} {own g : Given} (graph : H ≡ G) (given : g ≡ own) whe
       (subst (λ (v : SizeTable). AreSizesOf G (method_in own) (written_in own) v) (sym table) h))
 
   pub own_within :
-      (x d : ℕ) (n : BlockSizes) → n ≡ counts_at H (method_in g) (written_in g) x d → (rows most : ℕ) → n.rows ≤ rows →
-      largest n ≤ most →
-      IsWithin G (method_in own) (written_in own) rows most x d
-  own_within x d n is rows most few small =
+      (x d : ℕ) (n : BlockSizes) → n ≡ counts_at H (method_in g) (written_in g) x d → {rows most sections : ℕ} →
+      n.rows ≤ rows → largest n ≤ most → n.tuples ≤ sections →
+      IsWithin G (method_in own) (written_in own) rows most sections x d
+  own_within x d n is {rows = rows} {most = most} {sections = sections} few small short =
       let here : n ≡ counts_at G (method_in own) (written_in own) x d =
       is ∙ ap (λ (K : Graph). counts_at K (method_in g) (written_in g) x d) graph
       ∙ ap (λ (e : Given). counts_at G (method_in e) (written_in e) x d) given in
-      subst (λ (k : BlockSizes). (k.rows ≤ rows) × (largest k ≤ most)) here (few, small)
+      subst (λ (k : BlockSizes). (k.rows ≤ rows) × (largest k ≤ most) × (k.tuples ≤ sections)) here (few, small, short)
 
 pub top_of : {G H : Graph} → H ≡ G → IsTopVertex G (top_vertex G) → IsTopVertex H (top_vertex H)
 top_of graph top = subst (λ (K : Graph). IsTopVertex K (top_vertex K)) (sym graph) top

@@ -14,7 +14,7 @@
 --                       none of its comparisons is the first that fails, then
 --   IsAccepted G c      the certificate c is well formed, and its job keeps all rules and has the graph G
 --   AcceptedIsCheckable what such a certificate writes can be checked on G
-use Rattle.std.specs.Prelude.{◌≡◌, ℕ, ◌-◌, ◌≤◌, IsTrue}
+use Rattle.std.specs.Prelude.{ℕ, ◌-◌, ◌≤◌, IsTrue}
 use Rattle.bmp_field.specs.Primes.{is_listed}
 use Rattle.bmp_graph.specs.Graph.{Graph, IsGraph, vertex_count}
 use Rattle.bmp_cover.specs.BradenMacPherson.{IsTopVertex, IsBradenMacPherson, HasGeneratorsUpTo}

@@ -5,8 +5,8 @@
 --                           its sheaf
 --   HasWidth G m c n        n is no less than the largest size of each block, and than each number of coordinates of a
 --                           stalk and of a boundary
---   IsRoomFor G m c scratch the scratch has numbers of such a width, and by whole spaces room for the equations of each
---   block
+--   IsRoomFor G m c scratch the scratch has numbers of such a width, by whole spaces room for the equations of each
+--                           block, and by levels a sum for each of its sections
 use Rattle.std.specs.Prelude.{◌≡◌, ℕ, ◌<◌, ◌≤◌, length, map}
 use Rattle.bmp_graph.specs.Graph.{Graph, vertex_count}
 use Rattle.bmp_sheaf.specs.Coordinates.{stalk_count, boundary_count}
@@ -14,7 +14,7 @@ use Rattle.bmp_sheaf.specs.States.{Stalk, SheafState}
 use Rattle.bmp_cert.specs.Counts.{Written}
 use Rattle.bmp_cert.specs.declared.cert.VertexPart.{VertexPart}
 use Rattle.bmp_check.specs.declared.method.Method.{Method}
-use Rattle.bmp_check.specs.declared.method.Method.TheVariants.{Spaces}
+use Rattle.bmp_check.specs.declared.method.Method.TheVariants.{Spaces, Levels}
 use Rattle.bmp_check.specs.declared.sizes.SizeTable.{SizeTable}
 use Rattle.bmp_check.specs.declared.scratch.BlockScratch.{BlockScratch}
 use Rattle.bmp_check.specs.Accepted.{IsCheckable}
@@ -50,3 +50,4 @@ pub record IsRoomFor (G : Graph) (m : Method) (c : Written) (scratch : BlockScra
   pub vertices : m ≡ Spaces → vertex_count G ≤ length scratch.index.starts.items
   pub equations : m ≡ Spaces → (x d : ℕ) → HasBlock G c x d →
       (counts_at G m c x d).rows ≤ length scratch.index.places.items
+  pub sums : m ≡ Levels → (x d : ℕ) → HasBlock G c x d → (counts_at G m c x d).tuples ≤ length scratch.sums.items

@@ -1,7 +1,6 @@
 -- Where the coordinates of generators start, and the generators of one degree counted.
-use Rattle.std.proofs.Common.{◌≡◌, ◌≢◌, ℕ, zero, suc, ◌+◌, ◌-◌, ◌<◌, ◌≤◌, leb, eqb, cond, List, length, refl, sym, ap, arith, eq-eqb, ne_eqb}
+use Rattle.std.proofs.Common.{◌≡◌, ◌≢◌, ℕ, zero, suc, ◌+◌, ◌<◌, ◌≤◌, eqb, cond, List, length, refl, sym, ap, arith, eq-eqb, ne_eqb}
 use Rattle.std.specs.Prelude.{slice_index}
-use Rattle.std.proofs.lemmas.Bool.{cond-true, cond-false, le-leb, lt-leb}
 use Rattle.std.proofs.lemmas.List.Sums.{count_by_more_yes, count_by_more_no, sum_by-take-le}
 use Rattle.bmp_math.specs.Sums.{sum_below}
 use Rattle.bmp_math.proofs.SumLemmas.{sum_below-zero, sum_below_more, sum_below_rises}

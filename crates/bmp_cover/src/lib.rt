@@ -13,6 +13,6 @@ mod kind;
 pub mod laws;
 mod sources;
 
-pub use check::check_cover;
+pub use check::{check_beside_covers, check_cover};
 pub use fault::CoverFault;
 pub use kind::Kind;

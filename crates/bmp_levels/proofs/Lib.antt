@@ -19,3 +19,7 @@ pub mod TopRuns
 pub mod WholeFamilies
 pub mod Below
 pub mod CountLemmas
+pub mod RemainderLemmas
+pub mod AgreementLemmas
+pub mod OwnValues
+pub mod SumsLemmas

@@ -6,3 +6,4 @@ pub mod Evidence
 pub mod Statements
 pub mod Runs
 pub mod Extensions
+pub mod Agreement

@@ -2,6 +2,7 @@
 //! the blocks of one length, and what evidence by levels says of a sheaf.
 #![tactic(auto)]
 
+mod agree;
 mod columns;
 mod counts;
 mod extend;
@@ -10,6 +11,7 @@ pub mod laws;
 mod level_blocks;
 mod members;
 mod run;
+mod sums;
 mod top;
 mod whole;
 

@@ -1,25 +1,12 @@
 //! The first members of a family.
 ghost use Rattle.std.specs.Prelude.{◌≡◌, ℕ, ◌+◌, ◌*◌, ◌^◌, ◌<◌, ◌≤◌, IsTrue, length, slice_index};
 ghost use Rattle.bmp_levels.specs.Lists.{first_members};
-ghost use Rattle.bmp_levels.specs.Runs.{list_of};
+ghost use Rattle.bmp_levels.specs.Runs.{run_at, list_of};
 
 use crate::family::Family;
+use crate::run::Run;
+use crate::sums::add_multiples;
 use bmp_sections::Sections;
-
-/// Adds `factor` times the numbers to as many of the sums.
-fn add_multiples(factor: u8, numbers: &[u8], sums: &mut [u16])
-    requires few { length numbers.now ≤ length sums.old }
-    requires room { (j : ℕ) → j < length numbers.now
-        → slice_index sums.old j + factor * slice_index numbers.now j < 2 ^ 16 }
-    ensures added { (j : ℕ) → j < length numbers.now
-        → slice_index sums.new j ≡ slice_index sums.old j + factor * slice_index numbers.now j }
-    ensures kept { (j : ℕ) → length numbers.now ≤ j → slice_index sums.new j ≡ slice_index sums.old j }
-    ensures sums { length sums.new ≡ length sums.old }
-{
-    for (j, number) in numbers.iter().enumerate() {
-        sums[j] += u16::from(factor) * u16::from(*number);
-    }
-}
 
 /// The first members of a family, as a list of tuples. It keeps none of them.
 #[derive(Drop)]
@@ -37,6 +24,14 @@ impl<'a> Members<'a> {
         ensures count { result.count ≡ n }
     {
         Members { family, count: n }
+    }
+
+    /// The values at a vertex.
+    pub(crate) fn run(&self, y: u32) -> &'a Run
+        requires { IsTrue ((list_of self.now.family.now).has y) }
+        ensures { result.now ≡ run_at self.now.family.now y }
+    {
+        self.family.run(y)
     }
 
     /// Adds `factor` times the coordinate `c` of the value at `y` of each member to the sums, one for each member.

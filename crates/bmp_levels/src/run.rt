@@ -91,4 +91,15 @@ impl Run {
         let start = c as usize * self.count as usize;
         &self.values[start..start + self.count as usize]
     }
+
+    /// The coordinate `c` of the first `n` values: one byte for each of these members that was there.
+    pub(crate) fn first(&self, c: u32, n: usize) -> &[u8]
+        requires { c < self.now.size }
+        ensures few { length result.now ≤ n }
+        ensures values { (j : ℕ) → j < n → slice_index result.now j ≡ run_value self.now j c }
+    {
+        let numbers = self.coordinate(c);
+        let count = numbers.len().min(n);
+        &numbers[..count]
+    }
 }

@@ -1,4 +1,6 @@
-use Rattle.std.proofs.Common.{◌≡◌, ◌+◌, ◌∙◌, refl, sym, ap, subst, arith}
+use Rattle.std.proofs.Common.{◌≡◌, ◌∙◌, length, refl, sym, ap, subst, arith}
+use Rattle.std.specs.Vec.{with_items}
+use Rattle.std.proofs.lemmas.List.{with_items_is}
 use Rattle.std.proofs.lemmas.Result.{on_ok_weaker, MatchResult-weaker}
 use Rattle.bmp_graph.specs.Graph.{Graph, vertex_count}
 use Rattle.bmp_levels.specs.Runs.{FamilyTable}
@@ -7,7 +9,7 @@ use Rattle.bmp_check.specs.declared.scratch.BlockScratch.{BlockScratch}
 use Rattle.bmp_check.specs.declared.shaped.Shaped.{Shaped}
 use Rattle.bmp_check.specs.BlockOrder.{block_count}
 use Rattle.bmp_check.specs.Methods.{method_of}
-use Rattle.bmp_check.specs.Settings.{shaped_in, HoldsFamilies}
+use Rattle.bmp_check.specs.Settings.{HoldsFamilies}
 use Rattle.bmp_check.specs.Shaped.{IsRoomFor}
 use Rattle.bmp_check.specs.ShapedViews.{graph_in, method_at, cert_in}
 use Rattle.bmp_check.specs.Verdicts.{BlockPasses, IsBlockRefusal}
@@ -123,5 +125,30 @@ returns-in-Levels-clause-first c =
 
 pub returns-in-Levels-clause-room : goal.returns-in-Levels-clause-room
 returns-in-Levels-clause-room c =
-    let scratch : BlockScratch = record { index = c.args.scratch.now.index; numbers = c.check_by_levels.new.numbers } in
-    same_room c.args.scratch.now scratch refl refl c.check_by_levels.ensures.width c.requires.room
+    let scratch : BlockScratch = record {
+      index = c.args.scratch.now.index;
+      numbers = c.check_by_levels.new.numbers;
+      sums = with_items c.args.scratch.now.sums c.check_by_levels.new.sums;
+    } in
+    let long = c.check_by_levels.ensures.sums ∙ c.deref_mut.ensures.len in
+    let kept : length (with_items c.args.scratch.now.sums c.check_by_levels.new.sums).items
+    ≡ length c.args.scratch.now.sums.items =
+    ap length (with_items_is c.args.scratch.now.sums c.check_by_levels.new.sums long) ∙ long
+    ∙ c.args.scratch.now.sums.ok.0 in
+    same_room c.args.scratch.now scratch refl refl c.check_by_levels.ensures.width kept c.requires.room
+
+pub check_by_levels-requires-clause-sums : goal.check_by_levels-requires-clause-sums
+check_by_levels-requires-clause-sums c =
+    let method = ap (λ (g : Given). method_of g.version) (sym c.given-2.ensures) ∙ sym c.method.ensures
+    ∙ c.in-Levels.is in
+    let vertices = c.vertices.ensures.count ∙ ap (λ (H : Graph). vertex_count H) c.graph.ensures in
+    let degree = ap (λ (g : Given). g.degree) c.given.ensures in
+    let within = c.block_at-x.ensures.within in
+    let room = subst (λ (u : Shaped). IsRoomFor (graph_in u) (method_at u) (cert_in u) c.args.scratch.now)
+    (sym c.shaped-shaped.ensures) c.requires.room in
+    omega (
+      arith,
+      room.sums method c.block_at-x.result.0 c.block_at-x.result.1
+          (omega (arith, within.0, vertices), omega (arith, within.1, degree)),
+      ap length c.deref_mut.ensures.value,
+    )

@@ -1,5 +1,10 @@
 use Rattle.std.proofs.Common.{◌≡◌, ◌↔◌, ◌∙◌, sym, ap, subst}
+use Rattle.std.proofs.lemmas.List.{length-take-le}
 use Rattle.std.proofs.lemmas.Result.{err_from_is_err_and, on_ok_weaker, MatchResult-weaker}
+use Rattle.bmp_field.specs.declared.prime.PrimeField.{PrimeField}
+use Rattle.bmp_sheaf.specs.States.{SheafState, sheaf_of}
+use Rattle.bmp_cover.specs.CoverInputs.{HasValues, HasTuples}
+use Rattle.bmp_levels.specs.Agreement.{AgreesAt}
 use Rattle.bmp_cover.specs.CoverChecks.{CoverCompares}
 use Rattle.bmp_cover.specs.declared.fault.CoverFault.{CoverFault}
 use Rattle.bmp_levels.specs.Lists.{first_members}
@@ -9,7 +14,7 @@ use Rattle.bmp_check.specs.BlockData.{block_of, matrix_at, tuples_at}
 use Rattle.bmp_check.specs.PartsSheaf.{parts_sheaf}
 use Rattle.bmp_check.specs.ShapedViews.{graph_in, cert_in}
 use Rattle.bmp_check.specs.Verdicts.{CoverComparesAt}
-use Rattle.bmp_check.proofs.FamilyLemmas.{members_there, members_same, member_tuples, same_comparisons}
+use Rattle.bmp_check.proofs.FamilyLemmas.{members_room, members_there, members_same, members_own, members_known, member_tuples, same_comparisons}
 use Rattle.bmp_check.proofs.InputLemmas.{at_block, read_at, read_there, read_block, has_stalks, boundaries_are, boundaries_read}
 use Rattle.bmp_check.proofs.RefusalLemmas.{cover_first, kernel_second}
 use Rattle.bmp_check.proofs.block.check_by_levels.Goals as goal
@@ -23,7 +28,63 @@ pub members-members-requires : goal.members-members-requires
 members-members-requires c =
     let is = read_block c.args.x c.args.d c.given.ensures c.part_of.ensures c.block_of-block.ensures in
     members_there c.requires.whole c.requires.method c.args.x c.args.d c.requires.block is c.args.family.now
-    c.requires.family c.len.ensures
+    c.requires.family c.len-count.ensures
+
+pub slice_bounds-agree_at-end : goal.slice_bounds-agree_at-end
+slice_bounds-agree_at-end c =
+    let is = read_block c.args.x c.args.d c.given.ensures c.part_of.ensures c.block_of-block.ensures in
+    members_room c.requires.whole c.requires.method c.args.x c.args.d c.requires.block is c.len-count.ensures
+    c.requires.sums
+
+pub slice_bounds-agree_at-end-2 : goal.slice_bounds-agree_at-end-2
+slice_bounds-agree_at-end-2 c =
+    let is = read_block c.args.x c.args.d c.given.ensures c.part_of.ensures c.block_of-block.ensures in
+    let enough = members_room c.requires.whole c.requires.method c.args.x c.args.d c.requires.block is c.len-count.ensures
+    c.requires.sums in
+    sym (length-take-le c.len-count.result c.args.sums.now enough)
+
+pub agree_at-known-requires-clause-sums : goal.agree_at-known-requires-clause-sums
+agree_at-known-requires-clause-sums c =
+    let is = read_block c.args.x c.args.d c.given.ensures c.part_of.ensures c.block_of-block.ensures in
+    let enough = members_room c.requires.whole c.requires.method c.args.x c.args.d c.requires.block is c.len-count.ensures
+    c.requires.sums in
+    length-take-le c.len-count.result c.args.sums.now enough ∙ sym c.members-members.ensures.count
+
+pub agree_at-known-requires-clause-stalks : goal.agree_at-known-requires-clause-stalks
+agree_at-known-requires-clause-stalks c =
+    has_stalks (read_at c.requires.method c.sheaf-sheaf.ensures
+    (at_block c.requires.whole c.args.x c.args.d c.requires.block))
+
+pub agree_at-known-requires-clause-above : goal.agree_at-known-requires-clause-above
+agree_at-known-requires-clause-above c =
+    let is = read_block c.args.x c.args.d c.given.ensures c.part_of.ensures c.block_of-block.ensures in
+    let members = c.members-members.ensures in
+    subst (λ (t : SheafState PrimeField). HasTuples t c.args.x c.args.d
+    (first_members c.members-members.result.count (list_of c.members-members.result.family.now)))
+    (sym c.sheaf-sheaf.ensures)
+    (member_tuples c.requires.whole c.requires.method c.args.d c.requires.block.1 c.args.x
+    (members_same c.requires.whole c.requires.method c.args.x c.args.d c.requires.block is c.args.family.now
+    c.requires.family members.count members.family c.len-count.ensures))
+
+pub agree_at-known-requires-clause-own : goal.agree_at-known-requires-clause-own
+agree_at-known-requires-clause-own c =
+    let is = read_block c.args.x c.args.d c.given.ensures c.part_of.ensures c.block_of-block.ensures in
+    let members = c.members-members.ensures in
+    subst (λ (t : SheafState PrimeField). HasValues t c.args.d
+    (first_members c.members-members.result.count (list_of c.members-members.result.family.now)) c.args.x)
+    (sym c.sheaf-sheaf.ensures)
+    (members_own c.requires.whole c.requires.method c.args.x c.args.d c.requires.block is c.args.family.now
+    c.requires.family members.count members.family c.len-count.ensures)
+
+pub check_cover_at-requires-clause-known : goal.check_cover_at-requires-clause-known
+check_cover_at-requires-clause-known c = λ known.
+    let is = read_block c.args.x c.args.d c.given.ensures c.part_of.ensures c.block_of-block.ensures in
+    let members = c.members-members.ensures in
+    members_known c.requires.whole c.requires.method c.args.x c.args.d c.requires.block is c.args.family.now
+    c.requires.family members.count members.family c.len-count.ensures
+    (subst (λ (t : SheafState PrimeField). AgreesAt t.graph (sheaf_of t) c.args.x c.args.d
+    (first_members c.members-members.result.count (list_of c.members-members.result.family.now)))
+    c.sheaf-sheaf.ensures (c.agree_at-known.ensures.agree known))
 
 pub check_cover_at-requires-clause-tuples : goal.check_cover_at-requires-clause-tuples
 check_cover_at-requires-clause-tuples c =
@@ -31,14 +92,14 @@ check_cover_at-requires-clause-tuples c =
     let members = c.members-members.ensures in
     member_tuples c.requires.whole c.requires.method c.args.d c.requires.block.1 c.args.x
     (members_same c.requires.whole c.requires.method c.args.x c.args.d c.requires.block is c.args.family.now
-    c.requires.family members.count members.family c.len.ensures)
+    c.requires.family members.count members.family c.len-count.ensures)
 
 pub check_cover_at-requires-clause-count : goal.check_cover_at-requires-clause-count
 check_cover_at-requires-clause-count c =
     let is = read_block c.args.x c.args.d c.given.ensures c.part_of.ensures c.block_of-block.ensures in
     let members = c.members-members.ensures in
     let same = members_same c.requires.whole c.requires.method c.args.x c.args.d c.requires.block is c.args.family.now
-    c.requires.family members.count members.family c.len.ensures in
+    c.requires.family members.count members.family c.len-count.ensures in
     subst (λ (m : Method). c.members-members.result.count
     ≡ (tuples_at (graph_in c.args.s.now) m (cert_in c.args.s.now) c.args.x c.args.d).count) (sym c.requires.method)
     same.count
@@ -48,7 +109,7 @@ check_cover_at-requires-clause-same c =
     let is = read_block c.args.x c.args.d c.given.ensures c.part_of.ensures c.block_of-block.ensures in
     let members = c.members-members.ensures in
     let same = members_same c.requires.whole c.requires.method c.args.x c.args.d c.requires.block is c.args.family.now
-    c.requires.family members.count members.family c.len.ensures in
+    c.requires.family members.count members.family c.len-count.ensures in
     subst (λ (m : Method). (r : CoverFault) →
     CoverCompares (graph_in c.args.s.now) (parts_sheaf (graph_in c.args.s.now) (cert_in c.args.s.now)) c.args.x
     c.args.d (first_members c.members-members.result.count (list_of c.members-members.result.family.now))

@@ -1,8 +1,7 @@
-use Rattle.std.proofs.Common.{◌≡◌, ◌↔◌, ◌∙◌, sym, ap, subst}
+use Rattle.std.proofs.Common.{◌↔◌, ◌∙◌, refl, sym, ap, subst}
 use Rattle.std.proofs.lemmas.Result.{err_from_is_err_and, on_ok_weaker, MatchResult-weaker}
 use Rattle.bmp_cover.specs.CoverChecks.{CoverCompares}
 use Rattle.bmp_cover.specs.CoverInputs.{HasTuples}
-use Rattle.bmp_cover.specs.declared.fault.CoverFault.{CoverFault}
 use Rattle.bmp_field.specs.declared.prime.PrimeField.{PrimeField}
 use Rattle.bmp_sheaf.specs.States.{SheafState, sheaf_of}
 use Rattle.bmp_sections.specs.TupleLists.{TupleList, tuples_over}
@@ -54,9 +53,10 @@ returns-in_err-check_kernel_at-clause-first c =
 
 pub returns-in_err-check_kernel_at-clause-room : goal.returns-in_err-check_kernel_at-clause-room
 returns-in_err-check_kernel_at-clause-room c =
-    let scratch : BlockScratch = record { index = c.fill.new.self; numbers = c.check_kernel_at.new.numbers } in
+    let scratch : BlockScratch =
+    record { index = c.fill.new.self; numbers = c.check_kernel_at.new.numbers; sums = c.args.scratch.now.sums } in
     same_room c.args.scratch.now scratch c.fill.ensures.starts c.fill.ensures.places c.check_kernel_at.ensures.width
-    c.requires.room
+    refl c.requires.room
 
 pub check_cover_at-requires-clause-tuples : goal.check_cover_at-requires-clause-tuples
 check_cover_at-requires-clause-tuples c =
@@ -108,6 +108,7 @@ returns-clause-first c =
 
 pub returns-clause-room : goal.returns-clause-room
 returns-clause-room c =
-    let scratch : BlockScratch = record { index = c.fill.new.self; numbers = c.check_cover_at.new.numbers } in
+    let scratch : BlockScratch =
+    record { index = c.fill.new.self; numbers = c.check_cover_at.new.numbers; sums = c.args.scratch.now.sums } in
     same_room c.args.scratch.now scratch c.fill.ensures.starts c.fill.ensures.places
-    (c.check_cover_at.ensures.width ∙ c.check_kernel_at.ensures.width) c.requires.room
+    (c.check_cover_at.ensures.width ∙ c.check_kernel_at.ensures.width) refl c.requires.room

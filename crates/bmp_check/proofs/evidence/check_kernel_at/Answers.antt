@@ -8,7 +8,7 @@ use Rattle.bmp_linear.specs.declared.evidence.KernelEvidence.{KernelEvidence}
 use Rattle.bmp_check.specs.declared.method.Method.{Method}
 use Rattle.bmp_check.specs.declared.given.Given.{Given}
 use Rattle.bmp_check.specs.Methods.{method_of}
-use Rattle.bmp_check.specs.ShapedViews.{cert_in, method_at}
+use Rattle.bmp_check.specs.ShapedViews.{cert_in}
 use Rattle.bmp_check.specs.Verdicts.{kernel_refusal}
 use Rattle.bmp_check.proofs.InputLemmas.{at_block, read_there, read_block, field_prime, prime_is, kernel_numbers, kernel_fits, kernel_below, kernel_room, kernel_as, kernel_differs}
 use Rattle.bmp_check.proofs.evidence.check_kernel_at.Goals as goal

@@ -28,14 +28,17 @@ each-preserved c =
     let d = c.block_at-x.result.1 in
     let rows = c.max-rows.result in
     let most = c.max-most.result in
+    let sections = c.max-sections.result in
     let below : c.each.i < block_count n D = omega (arith, c.each-test.true, c.block_count-i-end.ensures.count) in
     let earlier =
-    within_more G m cert n D c.each.i c.each.rows c.each.most rows most (omega (arith, c.max-rows.ensures))
-    (omega (arith, c.max-most.ensures)) c.each.invariant in
-    let here : IsWithin G m cert rows most x d =
+    within_more G m cert n D c.each.i {rows = rows} {most = most} {sections = sections}
+    (omega (arith, c.max-rows.ensures)) (omega (arith, c.max-most.ensures)) (omega (arith, c.max-sections.ensures))
+    c.each.invariant in
+    let here : IsWithin G m cert rows most sections x d =
     own_within c.graph-graph.ensures c.given-given.ensures x d c.block-sizes.result c.block-sizes.ensures
-    rows most (omega (arith, c.max-rows.ensures)) (omega (arith, c.max-most.ensures, c.largest.ensures)) in
-    blocks_more G cert (IsWithin G m cert rows most) n D c.each.i vertices bound earlier x d below
+    (omega (arith, c.max-rows.ensures)) (omega (arith, c.max-most.ensures, c.largest.ensures))
+    (omega (arith, c.max-sections.ensures)) in
+    blocks_more G cert (IsWithin G m cert rows most sections) n D c.each.i vertices bound earlier x d below
     c.block_at-x.ensures.vertex c.block_at-x.ensures.degree here
 
 pub returns-clause-rows : goal.returns-clause-rows
@@ -49,7 +52,7 @@ returns-clause-rows c =
     c.vertices-vertices.ensures.count ∙ ap (λ (H : Graph). vertex_count H) c.graph-graph.ensures in
     let bound : D ≡ cert.degree = ap (λ (g : Given). g.degree) c.given-given.ensures in
     λ x d block.
-    (blocks_all G cert (IsWithin G m cert c.each.rows c.each.most) n D c.each.i vertices bound c.each.invariant
+    (blocks_all G cert (IsWithin G m cert c.each.rows c.each.most c.each.sections) n D c.each.i vertices bound c.each.invariant
     (omega (arith, c.each-test.false, c.block_count-i-end.ensures.count)) x d block).0
 
 pub returns-clause-sizes : goal.returns-clause-sizes
@@ -63,5 +66,19 @@ returns-clause-sizes c =
     c.vertices-vertices.ensures.count ∙ ap (λ (H : Graph). vertex_count H) c.graph-graph.ensures in
     let bound : D ≡ cert.degree = ap (λ (g : Given). g.degree) c.given-given.ensures in
     λ x d block.
-    (blocks_all G cert (IsWithin G m cert c.each.rows c.each.most) n D c.each.i vertices bound c.each.invariant
+    (blocks_all G cert (IsWithin G m cert c.each.rows c.each.most c.each.sections) n D c.each.i vertices bound c.each.invariant
     (omega (arith, c.each-test.false, c.block_count-i-end.ensures.count)) x d block).1
+
+pub returns-clause-sections : goal.returns-clause-sections
+returns-clause-sections c =
+    let G = graph_in c.args.s.now in
+    let m = method_at c.args.s.now in
+    let cert = cert_in c.args.s.now in
+    let n = c.vertices-vertices.result in
+    let D = c.given-given.result.now.degree in
+    let vertices : n ≡ vertex_count G =
+    c.vertices-vertices.ensures.count ∙ ap (λ (H : Graph). vertex_count H) c.graph-graph.ensures in
+    let bound : D ≡ cert.degree = ap (λ (g : Given). g.degree) c.given-given.ensures in
+    λ x d block.
+    (blocks_all G cert (IsWithin G m cert c.each.rows c.each.most c.each.sections) n D c.each.i vertices bound c.each.invariant
+    (omega (arith, c.each-test.false, c.block_count-i-end.ensures.count)) x d block).2

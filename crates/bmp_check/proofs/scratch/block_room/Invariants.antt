@@ -6,4 +6,4 @@ use Rattle.bmp_check.proofs.scratch.block_room.Given as goal
 -- the sizes of the blocks so far
 abbrev pub invariant-each : goal.invariant-each
 invariant-each l =
-    HoldsBefore (IsWithin (graph_in l.s) (method_at l.s) (cert_in l.s) l.rows l.most) l.vertices l.degree l.i
+    HoldsBefore (IsWithin (graph_in l.s) (method_at l.s) (cert_in l.s) l.rows l.most l.sections) l.vertices l.degree l.i

@@ -29,4 +29,9 @@ returns c =
         c.block_room-rows.ensures.rows x d block,
         c.in_ok-index_for.ensures.equations spaces,
       );
+      sums = λ levels x d block. omega (
+        arith,
+        c.block_room-rows.ensures.sections x d block,
+        c.in_ok-sums_for.ensures levels,
+      );
     }

@@ -1,4 +1,4 @@
-use Rattle.std.proofs.Common.{ℕ, ◌+◌, refl, ap, sym, subst, ◌∙◌, arith}
+use Rattle.std.proofs.Common.{refl, ap, sym, subst, arith}
 use Rattle.bmp_field.specs.declared.prime.PrimeField.{PrimeField}
 use Rattle.bmp_levels.specs.Extensions.{HasTop, AllFit}
 use Rattle.bmp_sheaf.specs.States.{SheafState}

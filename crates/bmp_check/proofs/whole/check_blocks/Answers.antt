@@ -1,6 +1,5 @@
-use Rattle.std.proofs.Common.{◌≡◌, ℕ, ap, ap₂, ◌∙◌, below_more, arith}
+use Rattle.std.proofs.Common.{below_more, arith}
 use Rattle.std.proofs.lemmas.Result.{err_from_is_err_and}
-use Rattle.bmp_check.specs.BlockOrder.{block_count}
 use Rattle.bmp_check.specs.NumberedBlocks.{PassesAt}
 use Rattle.bmp_check.specs.Settings.{shaped_in}
 use Rattle.bmp_check.proofs.NumberLemmas.{counted_blocks, all_blocks, first_block}

@@ -1,5 +1,5 @@
 use Rattle.std.proofs.Common.{◌≡◌, ℕ, ◌+◌, ◌*◌, ◌<◌, ◌≤◌, length, get_or}
-use Rattle.bmp_levels.proofs.members.add_multiples.Given as goal
+use Rattle.bmp_levels.proofs.sums.add_multiples.Given as goal
 
 -- the sums so far have grown, the later ones are as they were
 abbrev pub invariant-loop-j : goal.invariant-loop-j
