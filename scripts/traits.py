@@ -15,14 +15,14 @@ TOP = Path(__file__).resolve().parent.parent
 # For each row of the table: the traits, how code uses them by a bound or a call, and what would be going round them.
 TRAITS = {
     "`Field`": (
-        r"\bF: Field\b|\bPrimeField\b",
+        r"\bF: Field\b|\bPrimeField\b|\bBitField\b",
         # sums and products reduced by hand, where the numbers are a field's
         r"[^%]% (?:prime|p|modulus|size)\b",
     ),
     "`Rows`, `RowSpace`": (
         r": Rows<|: RowSpace<|\bRows<F> for\b|use bmp_linear::(?:\{[^}]*\b)?(?:Rows|RowSpace)\b",
         # rows that are kept as the one type or the other
-        r"\bSparseRows\b|\bDenseRows\b",
+        r"\bSparseRows\b|\bDenseRows\b|\bPackedRows\b",
     ),
     "`GradedModule`, `ModuleMap`": (
         r"GradedModule|ModuleMap|\bbmp_module::",
@@ -32,8 +32,8 @@ TRAITS = {
 }
 # where each trait and the types that meet it stand; nothing there goes round it, and tests may name any type
 HOMES = {
-    "`Field`": {"bmp_field"},
-    "`Rows`, `RowSpace`": {"bmp_linear", "bmp_elim"},
+    "`Field`": {"bmp_field", "bmp_packed"},
+    "`Rows`, `RowSpace`": {"bmp_linear", "bmp_elim", "bmp_packed"},
     "`GradedModule`, `ModuleMap`": {"bmp_poly", "bmp_module"},
 }
 

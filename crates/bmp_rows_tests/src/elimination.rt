@@ -494,8 +494,8 @@ fn worked_rows(rt: HostRuntime) -> Result<(), Fail> {
 
 /// Numbers by chance, the same in every run.
 #[derive(Drop)]
-struct Chance {
-    state: u64,
+pub(crate) struct Chance {
+    pub(crate) state: u64,
 }
 
 impl Chance {
@@ -510,7 +510,7 @@ impl Chance {
 
     /// A matrix. Each number is 0 `zeros` times of 4, and beyond; where `repeats`, each second row is a
     /// multiple of the one before it.
-    fn matrix(
+    pub(crate) fn matrix(
         &mut self,
         alloc: Global,
         p: u8,

@@ -15,4 +15,6 @@ mod lists;
 #[cfg(test)]
 mod matrices;
 #[cfg(test)]
+mod packed;
+#[cfg(test)]
 mod plain;

@@ -1,0 +1,19 @@
+use Rattle.std.proofs.Common.{get_or, rules}
+use Rattle.bmp_packed.proofs.WordRowLemmas.{full-pushed, row_pushed, still_masked-pushed}
+use Rattle.bmp_packed.proofs.packed.PackedRowsRowSpaceBitField.push_numbers.Goals as goal
+
+pub invariant_of-self-2 : goal.invariant_of-self-2
+invariant_of-self-2 c = (
+  search rules,
+  c.self.invariant.1,
+  full-pushed c.self.inside.rows c.self.inside.cols c.self.inside.words.items c.append_numbers.new.words.items
+      (λ j. get_or c.args.numbers.now j 0) c.self.invariant.2 c.in_ok-append_numbers.ensures.ok,
+  still_masked-pushed c.self.inside.rows c.self.inside.cols c.self.inside.words.items c.append_numbers.new.words.items
+      (λ j. get_or c.args.numbers.now j 0) c.self.invariant.2 c.in_ok-append_numbers.ensures.ok c.self.invariant.3,
+)
+
+pub returns-clause-ok : goal.returns-clause-ok
+returns-clause-ok c =
+    row_pushed c.self.inside.rows c.self.inside.cols c.self.inside.words.items c.append_numbers.new.words.items
+    (λ j. get_or c.args.numbers.now j 0) c.self.invariant.2 c.in_ok-append_numbers.ensures.ok c.args.self.now
+    c.self.view_is
