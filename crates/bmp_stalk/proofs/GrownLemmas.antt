@@ -198,8 +198,8 @@ module _ {F : Type 0} {s : SheafState F} {x d : ℕ} {list : TupleList} {chosen 
           let m : ℕ = length to.degrees in
           let e : ℕ = first_edge s.graph x + i / m in
           let g : ℕ = i % m in
-          subst
-          (λ v. FitsBelow v (stalk_count s.graph.rank (stalk_of s (upper s.graph e)).degrees (slice_index to.degrees g)))
+          let b : ℕ = slice_index to.degrees (i % length to.degrees) in
+          subst (λ v. FitsBelow v (stalk_count s.graph.rank (stalk_of s (upper s.graph e)).degrees b))
           (place_is is x to h.counted i inside)
           (fits_at e g (place_edge is x to h.counted i inside) (place_starts is x to h.counted i inside)
           (place_generator is x to h.counted i inside));

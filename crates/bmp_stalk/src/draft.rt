@@ -8,9 +8,9 @@ ghost use Rattle.bmp_cover.specs.CoverInputs.{HasStalks, HasTuples};
 ghost use Rattle.bmp_stalk.specs.Drafts.{under, IsDrafted, GrowsBy};
 
 use crate::growth::grown;
-use bmp_cert::Degrees;
+use bmp_cert::{Degrees, VertexPart};
 use bmp_field::Field;
-use bmp_linear::{Places, Vectors};
+use bmp_linear::{Blocks, Places, Vectors};
 use bmp_sections::Sections;
 use bmp_sheaf::{Sheaf, SheafFault};
 use std::alloc::{AllocError, Global};
@@ -33,7 +33,7 @@ impl Model for Draft {
 
 impl Draft {
     /// A stalk without generators. Takes no memory.
-    pub fn new(alloc: Global) -> Draft
+    fn new(alloc: Global) -> Draft
         ensures { result ≡ no_stalk }
     {
         Draft {
@@ -41,10 +41,23 @@ impl Draft {
             lifts: Vectors::new(alloc),
         }
     }
+
+    /// The stalk as the part of a certificate, with so many edges going up and these blocks.
+    pub fn into_part(self, edges: u32, blocks: Blocks) -> VertexPart
+        ensures { result
+            ≡ record { degrees = self.degrees; edges = edges; lifts = self.lifts; blocks = blocks } }
+    {
+        VertexPart {
+            degrees: self.degrees,
+            edges,
+            lifts: self.lifts,
+            blocks,
+        }
+    }
 }
 
 /// Adds the draft as the stalk at the next vertex. Since it is one, memory alone can be wanting.
-pub(crate) fn push_draft<F: Field>(sheaf: &mut Sheaf<F>, draft: &Draft) -> Result<(), AllocError>
+fn push_draft<F: Field>(sheaf: &mut Sheaf<F>, draft: &Draft) -> Result<(), AllocError>
     requires left { length sheaf.old.stalks < vertex_count sheaf.old.graph }
     requires values { All (λ v. ValuesBelow v sheaf.old.graph.prime) draft.now.lifts }
     requires stalk { IsStalk sheaf.old (next_vertex sheaf.old) draft.now.degrees draft.now.lifts }
@@ -55,6 +68,18 @@ pub(crate) fn push_draft<F: Field>(sheaf: &mut Sheaf<F>, draft: &Draft) -> Resul
         Err(SheafFault::Memory) => Err(AllocError),
         Err(_) => unreachable!(),
     }
+}
+
+/// Puts a stalk without generators at the next vertex of the sheaf, for its degrees to be built.
+pub fn begin_stalk<F: Field>(alloc: Global, sheaf: &mut Sheaf<F>) -> Result<Draft, AllocError>
+    requires { length sheaf.old.stalks < vertex_count sheaf.old.graph }
+    ensures drafted { IfOk result (IsDrafted sheaf.new (next_vertex sheaf.old) 0) }
+    ensures under { OnOk result (under sheaf.new ≡ sheaf.old) }
+{
+    let _ = sheaf.graph();
+    let draft = Draft::new(alloc);
+    push_draft(sheaf, &draft)?;
+    Ok(draft)
 }
 
 /// The draft with a further generator of degree `d` for each chosen tuple, put in the place of the old one. Where none

@@ -8,7 +8,7 @@ ghost use Rattle.bmp_stalk.specs.Drafts.{under, IsNext, AreFew, IsDrafted, IsLon
 ghost use Rattle.bmp_stalk.specs.BuiltParts.{list_at, HaveMembers, IsBuiltPart};
 
 use crate::choice::choose_generators;
-use crate::draft::{Draft, next_draft, push_draft};
+use crate::draft::{Draft, begin_stalk, next_draft};
 use bmp_cert::VertexPart;
 use bmp_field::Field;
 use bmp_levels::Family;
@@ -91,8 +91,7 @@ pub fn build_stalk<F: Field>(
 {
     let x = sheaf.graph().vertices() - 1 - sheaf.pushed();
     let (first, past) = sheaf.graph().up(x);
-    let mut draft = Draft::new(alloc);
-    push_draft(sheaf, &draft)?;
+    let mut draft = begin_stalk(alloc, sheaf)?;
     let mut blocks = Blocks::new(alloc);
     for d in 0..sheaf.degree() + 1 {
         let members = families[d as usize].members(counts[d as usize]);
@@ -100,10 +99,5 @@ pub fn build_stalk<F: Field>(
         draft = built.draft;
         blocks.push(built.block)?;
     }
-    Ok(VertexPart {
-        degrees: draft.degrees,
-        edges: past - first,
-        lifts: draft.lifts,
-        blocks,
-    })
+    Ok(draft.into_part(past - first, blocks))
 }
