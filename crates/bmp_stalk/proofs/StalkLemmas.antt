@@ -44,8 +44,8 @@ built_more {F} {s} {x} {d} {lists} {blocks} {new} {t} {more} at h longer b built
 }
 
 -- when all degrees are done the part is built
-pub part_is_built : {F : Type 0} {s new : SheafState F} {x edges : ℕ} {lists : ℕ → TupleList} {blocks : List DegreeBlock}
-    {t : Stalk} → IsNext s x → IsDraft s x (s.degree + 1) t → AreBuilt s x lists (s.degree + 1) blocks t →
+pub part_is_built : {F : Type 0} {s new : SheafState F} {x edges : ℕ} {lists : ℕ → TupleList}
+    {blocks : List DegreeBlock} {t : Stalk} → IsNext s x → IsDraft s x (s.degree + 1) t → AreBuilt s x lists (s.degree + 1) blocks t →
     new ≡ with_stalk s t → edges ≡ up_count s.graph x →
     IsBuiltPart s new lists (record { degrees = t.degrees; edges = edges; lifts = t.lifts; blocks = blocks })
 part_is_built {F} {s} {new} {x} {edges} {lists} {blocks} {t} at draft h pushed counted = record {
