@@ -6,7 +6,7 @@ ghost use Rattle.bmp_sheaf.specs.States.{IsThere};
 ghost use Rattle.bmp_sheaf.specs.StalkFaults.{HasLifts};
 ghost use Rattle.bmp_cover.specs.CoverInputs.{HasStalks, HasTuples, HasValues};
 ghost use Rattle.bmp_stalk.specs.Values.{IsValueOf};
-ghost use Rattle.bmp_stalk.specs.Growth.{AreAppended, IsLiftOf, HoldLifts, IsGrownBy};
+ghost use Rattle.bmp_stalk.specs.Growth.{AreAppended, lifts_on, IsLiftOf, HoldLifts, IsGrownBy};
 
 use crate::draft::Draft;
 use bmp_cert::Degrees;
@@ -27,15 +27,13 @@ fn grown_degrees(from: &Degrees, d: u32, count: u32) -> Result<Degrees, AllocErr
     Ok(degrees)
 }
 
-/// Appends copies of the `n` vectors from `start` on.
-fn push_copies(lifts: &mut Vectors, from: &Vectors, start: u32, n: u32) -> Result<(), AllocError>
-    requires { start + n ≤ length from.now }
+/// Appends copies of the vectors.
+fn push_copies(lifts: &mut Vectors, vectors: &[Vector]) -> Result<(), AllocError>
     ensures { OnOk result
-        (AreAppended [] (λ i v. v ≡ slice_index_or from.now (start + i) []) n lifts.old lifts.new) }
+        (AreAppended [] (λ i v. v ≡ slice_index_or vectors.now i []) (length vectors.now) lifts.old lifts.new) }
 {
-    let _ = from.len();
-    for i in 0..n {
-        let copy = from.at(start + i).copy()?;
+    for vector in vectors {
+        let copy = vector.copy()?;
         lifts.push(copy)?;
     }
     Ok(())
@@ -84,7 +82,7 @@ fn push_values<T: Sections>(
     Ok(())
 }
 
-/// Appends the lifts on an edge: the `n` old ones from `start` on, and those of the chosen tuples.
+/// Appends the lifts on an edge: copies of the old ones, and the values of the chosen tuples.
 fn push_lifts<F: Field, T: Sections>(
     alloc: Global,
     sheaf: &Sheaf<F>,
@@ -92,9 +90,7 @@ fn push_lifts<F: Field, T: Sections>(
     d: u32,
     tuples: &T,
     chosen: &Places,
-    from: &Vectors,
-    start: u32,
-    n: u32,
+    old: &[Vector],
     lifts: &mut Vectors,
 ) -> Result<(), AllocError>
     requires edge { e < edge_count sheaf.now.graph }
@@ -102,15 +98,14 @@ fn push_lifts<F: Field, T: Sections>(
     requires degree { d ≤ sheaf.now.degree }
     requires tuples { HasValues sheaf.now d (T.list tuples.now) (upper sheaf.now.graph e) }
     requires chosen { (i : ℕ) → i < length chosen.now → slice_index chosen.now i < (T.list tuples.now).count }
-    requires old { start + n ≤ length from.now }
     ensures { OnOk result
-        (AreAppended [] (IsLiftOf (T.list tuples.now) (upper sheaf.now.graph e) chosen.now from.now start n)
-        (n + length chosen.now) lifts.old lifts.new) }
+        (AreAppended [] (IsLiftOf (T.list tuples.now) (upper sheaf.now.graph e) chosen.now old.now)
+        (length old.now + length chosen.now) lifts.old lifts.new) }
 {
     let y = sheaf.graph().edge(e).upper;
     let size = sheaf.upper_rows(e, d).cols() as usize;
     let mut numbers = vec![in alloc; 0; size]?;
-    push_copies(lifts, from, start, n)?;
+    push_copies(lifts, old)?;
     push_values(alloc, tuples, y, chosen, &mut numbers, lifts)?;
     Ok(())
 }
@@ -129,28 +124,18 @@ fn grown_lifts<F: Field, T: Sections>(
     requires tuples { HasTuples sheaf.now x d (T.list tuples.now) }
     requires chosen { (i : ℕ) → i < length chosen.now → slice_index chosen.now i < (T.list tuples.now).count }
     requires counted { HasLifts sheaf.now x from.now.degrees from.now.lifts }
-    ensures { let G = sheaf.now.graph in let n = length from.now.degrees in
-        IfOk result (HoldLifts (n + length chosen.now)
-        (λ k. IsLiftOf (T.list tuples.now) (upper G (first_edge G x + k)) chosen.now from.now.lifts (k * n) n)
+    ensures { let G = sheaf.now.graph in
+        IfOk result (HoldLifts (length from.now.degrees + length chosen.now)
+        (λ k. IsLiftOf (T.list tuples.now) (upper G (first_edge G x + k)) chosen.now (lifts_on from.now k))
         (up_count G x)) }
 {
     let (first, past) = sheaf.graph().up(x);
-    let n = from.degrees.len();
-    let _ = from.lifts.len();
+    let n = from.degrees.len() as usize;
     let mut lifts = Vectors::new(alloc);
     for k in 0..past - first {
-        push_lifts(
-            alloc,
-            sheaf,
-            first + k,
-            d,
-            tuples,
-            chosen,
-            &from.lifts,
-            k * n,
-            n,
-            &mut lifts,
-        )?;
+        let start = k as usize * n;
+        let old = &from.lifts.as_slice()[start..start + n];
+        push_lifts(alloc, sheaf, first + k, d, tuples, chosen, old, &mut lifts)?;
     }
     Ok(lifts)
 }
