@@ -8,6 +8,7 @@ use Rattle.bmp_sheaf.specs.Written.{up_count}
 use Rattle.bmp_sheaf.specs.StalkFaults.{IsStalk}
 use Rattle.bmp_sheaf.specs.States.{Stalk, SheafState, next_vertex, with_stalk}
 use Rattle.bmp_sections.specs.TupleLists.{TupleList}
+use Rattle.bmp_cert.specs.declared.cert.VertexPart.{VertexPart}
 use Rattle.bmp_stalk.specs.BuiltParts.{no_block, IsBuiltBlock, IsBuiltPart}
 use Rattle.bmp_stalk.specs.Drafts.{IsNext, IsDraft, IsLonger, IsBuiltDegree}
 use Rattle.bmp_stalk.proofs.DraftLemmas.{built_degree_passes, built_degree_stays}
@@ -44,20 +45,22 @@ built_more {F} {s} {x} {d} {lists} {blocks} {new} {t} {more} at h longer b built
 }
 
 -- when all degrees are done the part is built
-pub part_is_built : {F : Type 0} {s new : SheafState F} {x edges : ℕ} {lists : ℕ → TupleList}
-    {blocks : List DegreeBlock} {t : Stalk} → IsNext s x → IsDraft s x (s.degree + 1) t → AreBuilt s x lists (s.degree + 1) blocks t →
-    new ≡ with_stalk s t → edges ≡ up_count s.graph x →
-    IsBuiltPart s new lists (record { degrees = t.degrees; edges = edges; lifts = t.lifts; blocks = blocks })
-part_is_built {F} {s} {new} {x} {edges} {lists} {blocks} {t} at draft h pushed counted = record {
-  stalk = pushed;
-  is_stalk = subst (λ y. IsStalk s y t.degrees t.lifts) at.next draft.stalk;
-  edges = counted ∙ ap (up_count s.graph) at.next;
-  bounded = λ i none inside.
-      subst (λ z. z ≤ s.degree) (get_or_default t.degrees i 0 none inside) (omega (arith, draft.below i inside));
-  values = draft.values;
-  blocks = h.counted;
-  block = λ d small.
-      subst (λ u. IsBuiltBlock u (next_vertex s) d (lists d) (get_or blocks d no_block)) (sym pushed)
-      (subst (λ y. IsBuiltBlock (with_stalk s t) y d (lists d) (get_or blocks d no_block)) at.next
-      (built_degree_passes at (h.each d (omega (arith, small)))));
-}
+pub part_is_built : {F : Type 0} {s new : SheafState F} {x edges : ℕ} {lists : ℕ → TupleList} {part : VertexPart}
+    {blocks : List DegreeBlock} {t : Stalk} → IsNext s x → IsDraft s x (s.degree + 1) t →
+    AreBuilt s x lists (s.degree + 1) blocks t → new ≡ with_stalk s t → edges ≡ up_count s.graph x →
+    part ≡ record { degrees = t.degrees; edges = edges; lifts = t.lifts; blocks = blocks } →
+    IsBuiltPart s new lists part
+part_is_built {F} {s} {new} {x} {edges} {lists} {part} {blocks} {t} at draft h pushed counted made =
+    subst (IsBuiltPart s new lists) (sym made) (record {
+      stalk = pushed;
+      is_stalk = subst (λ y. IsStalk s y t.degrees t.lifts) at.next draft.stalk;
+      edges = counted ∙ ap (up_count s.graph) at.next;
+      bounded = λ i none inside.
+          subst (λ z. z ≤ s.degree) (get_or_default t.degrees i 0 none inside) (omega (arith, draft.below i inside));
+      values = draft.values;
+      blocks = h.counted;
+      block = λ d small.
+          subst (λ u. IsBuiltBlock u (next_vertex s) d (lists d) (get_or blocks d no_block)) (sym pushed)
+          (subst (λ y. IsBuiltBlock (with_stalk s t) y d (lists d) (get_or blocks d no_block)) at.next
+          (built_degree_passes at (h.each d (omega (arith, small)))));
+    })

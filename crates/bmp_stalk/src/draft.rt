@@ -1,10 +1,11 @@
 //! A stalk that is built degree by degree, on top of a sheaf.
-ghost use Rattle.std.specs.Prelude.{◌≡◌, ℕ, ◌+◌, ◌<◌, ◌≤◌, All, OnOk, IfOk, length, slice_index};
+ghost use Rattle.std.specs.Prelude.{◌≡◌, ◌+◌, ◌<◌, ◌≤◌, All, OnOk, IfOk, length};
 ghost use Rattle.bmp_linear.specs.SparseVectors.{ValuesBelow};
 ghost use Rattle.bmp_graph.specs.Graph.{vertex_count};
 ghost use Rattle.bmp_sheaf.specs.States.{no_stalk, next_vertex, with_stalk};
 ghost use Rattle.bmp_sheaf.specs.StalkFaults.{IsStalk};
 ghost use Rattle.bmp_cover.specs.CoverInputs.{HasStalks, HasTuples};
+ghost use Rattle.bmp_stalk.specs.Blocks.{AreTuplesOf};
 ghost use Rattle.bmp_stalk.specs.Drafts.{under, IsDrafted, GrowsBy};
 
 use crate::growth::grown;
@@ -97,7 +98,7 @@ pub(crate) fn next_draft<F: Field, T: Sections>(
     requires drafted { IsDrafted sheaf.old x d draft }
     requires stalks { HasStalks sheaf.old x d }
     requires tuples { HasTuples (under sheaf.old) x d (T.list tuples.now) }
-    requires chosen { (i : ℕ) → i < length chosen.now → slice_index chosen.now i < (T.list tuples.now).count }
+    requires chosen { AreTuplesOf (T.list tuples.now) chosen.now }
     ensures drafted { IfOk result (IsDrafted sheaf.new x (d + 1)) }
     ensures under { OnOk result (under sheaf.new ≡ under sheaf.old) }
     ensures grows { IfOk result (GrowsBy (under sheaf.old) x d (T.list tuples.now) chosen.now draft) }

@@ -1,10 +1,11 @@
 //! How a draft grows: copies of what it has, and behind the old generators one for each chosen tuple.
-ghost use Rattle.std.specs.Prelude.{◌≡◌, ℕ, ◌+◌, ◌-◌, ◌*◌, ◌^◌, ◌<◌, ◌≤◌, [], IsTrue, OnOk, IfOk, length, slice_index, slice_index_or};
+ghost use Rattle.std.specs.Prelude.{◌≡◌, ◌+◌, ◌^◌, ◌<◌, ◌≤◌, [], IsTrue, OnOk, IfOk, length, slice_index, slice_index_or};
 ghost use Rattle.bmp_graph.specs.Graph.{edge_count, lower, upper};
 ghost use Rattle.bmp_sheaf.specs.Written.{first_edge, up_count};
 ghost use Rattle.bmp_sheaf.specs.States.{IsThere};
 ghost use Rattle.bmp_sheaf.specs.StalkFaults.{HasLifts};
 ghost use Rattle.bmp_cover.specs.CoverInputs.{HasStalks, HasTuples, HasValues};
+ghost use Rattle.bmp_stalk.specs.Blocks.{AreTuplesOf};
 ghost use Rattle.bmp_stalk.specs.Values.{IsValueOf};
 ghost use Rattle.bmp_stalk.specs.Growth.{AreAppended, lifts_on, IsLiftOf, HoldLifts, IsGrownBy};
 
@@ -68,7 +69,7 @@ fn push_values<T: Sections>(
     numbers: &mut [u8],
     lifts: &mut Vectors,
 ) -> Result<(), AllocError>
-    requires chosen { (i : ℕ) → i < length chosen.now → slice_index chosen.now i < (T.list tuples.now).count }
+    requires chosen { AreTuplesOf (T.list tuples.now) chosen.now }
     requires vertex { IsTrue ((T.list tuples.now).has y) }
     requires sized { length numbers.old ≡ (T.list tuples.now).size y }
     requires few { length numbers.old < 2 ^ 32 }
@@ -97,7 +98,7 @@ fn push_lifts<F: Field, T: Sections>(
     requires there { IsThere sheaf.now (lower sheaf.now.graph e) }
     requires degree { d ≤ sheaf.now.degree }
     requires tuples { HasValues sheaf.now d (T.list tuples.now) (upper sheaf.now.graph e) }
-    requires chosen { (i : ℕ) → i < length chosen.now → slice_index chosen.now i < (T.list tuples.now).count }
+    requires chosen { AreTuplesOf (T.list tuples.now) chosen.now }
     ensures { OnOk result
         (AreAppended [] (IsLiftOf (T.list tuples.now) (upper sheaf.now.graph e) chosen.now old.now)
         (length old.now + length chosen.now) lifts.old lifts.new) }
@@ -122,7 +123,7 @@ fn grown_lifts<F: Field, T: Sections>(
 ) -> Result<Vectors, AllocError>
     requires stalks { HasStalks sheaf.now x d }
     requires tuples { HasTuples sheaf.now x d (T.list tuples.now) }
-    requires chosen { (i : ℕ) → i < length chosen.now → slice_index chosen.now i < (T.list tuples.now).count }
+    requires chosen { AreTuplesOf (T.list tuples.now) chosen.now }
     requires counted { HasLifts sheaf.now x from.now.degrees from.now.lifts }
     ensures { let G = sheaf.now.graph in
         IfOk result (HoldLifts (length from.now.degrees + length chosen.now)
@@ -152,7 +153,7 @@ pub(crate) fn grown<F: Field, T: Sections>(
 ) -> Result<Draft, AllocError>
     requires stalks { HasStalks sheaf.now x d }
     requires tuples { HasTuples sheaf.now x d (T.list tuples.now) }
-    requires chosen { (i : ℕ) → i < length chosen.now → slice_index chosen.now i < (T.list tuples.now).count }
+    requires chosen { AreTuplesOf (T.list tuples.now) chosen.now }
     requires counted { HasLifts sheaf.now x from.now.degrees from.now.lifts }
     ensures { IfOk result (IsGrownBy sheaf.now.graph x d (T.list tuples.now) chosen.now from.now) }
 {

@@ -1,10 +1,9 @@
 //! The stalk at the next vertex, degree by degree, with its evidence by levels.
-ghost use Rattle.std.specs.Prelude.{◌≡◌, ℕ, ◌+◌, ◌-◌, ◌^◌, ◌<◌, ◌≤◌, OnOk, IfOk, length};
+ghost use Rattle.std.specs.Prelude.{◌≡◌, ℕ, ◌+◌, ◌<◌, ◌≤◌, OnOk, IfOk, length};
 ghost use Rattle.bmp_graph.specs.Graph.{vertex_count};
-ghost use Rattle.bmp_sheaf.specs.States.{IsThere, no_stalk, next_vertex, with_stalk, sheaf_of};
-ghost use Rattle.bmp_sheaf.specs.Written.{up_count};
+ghost use Rattle.bmp_sheaf.specs.States.{IsThere, sheaf_of};
 ghost use Rattle.bmp_cover.specs.CoverInputs.{HasTuples};
-ghost use Rattle.bmp_stalk.specs.Drafts.{under, IsNext, AreFew, IsDrafted, IsLonger, IsBuiltDegree};
+ghost use Rattle.bmp_stalk.specs.Drafts.{under, AreFew, IsDrafted, IsLonger, IsBuiltDegree};
 ghost use Rattle.bmp_stalk.specs.BuiltParts.{list_at, HaveMembers, IsBuiltPart};
 
 use crate::choice::choose_generators;

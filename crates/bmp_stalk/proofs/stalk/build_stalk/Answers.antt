@@ -5,7 +5,7 @@ use Rattle.bmp_sheaf.specs.States.{with_stalk}
 use Rattle.bmp_sheaf.proofs.UpEdges.{up_count_is}
 use Rattle.bmp_levels.specs.Lists.{first_members}
 use Rattle.bmp_levels.specs.Runs.{FamilyTable, list_of}
-use Rattle.bmp_stalk.specs.BuiltParts.{no_family, list_at, IsBuiltPart}
+use Rattle.bmp_stalk.specs.BuiltParts.{no_family, list_at}
 use Rattle.bmp_stalk.specs.Drafts.{under, IsNext, IsDraft, IsLonger, IsBuiltDegree}
 use Rattle.bmp_stalk.proofs.StalkLemmas.{AreBuilt, built_more, part_is_built}
 use Rattle.bmp_stalk.proofs.stalk.build_stalk.Goals as goal
@@ -55,7 +55,7 @@ returns g c =
     let all : c.loop-d.d ≡ s.degree + 1 = omega (arith, c.loop-d-test.false, c.loop-d.auto.d-end, bound) in
     let end : IsDraft s x (s.degree + 1) draft =
     subst (λ n. IsDraft s x n draft) all (subst (λ w. IsDraft w x c.loop-d.d draft) h.under h.drafted.draft) in
-    subst (IsBuiltPart s c.loop-d.sheaf lists) (sym c.into_part.ensures)
-    (part_is_built (subst (λ w. IsNext w x) h.under h.drafted.next) end
+    part_is_built (subst (λ w. IsNext w x) h.under h.drafted.next) end
     (subst (λ n. AreBuilt s x lists n c.loop-d.blocks draft) all h.built)
-    (h.drafted.last ∙ ap (λ w. with_stalk w draft) h.under) (sym (up_count_is s.graph x first past range)))
+    (h.drafted.last ∙ ap (λ w. with_stalk w draft) h.under) (sym (up_count_is s.graph x first past range))
+    c.into_part.ensures
