@@ -8,4 +8,5 @@ use Rattle.bmp_stalk.proofs.growth.grown_lifts.Given as goal
 abbrev pub invariant-loop-k : goal.invariant-loop-k
 invariant-loop-k g l = let G = l.sheaf.graph in
     HoldLifts (length l.from.degrees + length l.chosen)
-    (λ k. IsLiftOf (g.T.Sections.list l.tuples) (upper G (first_edge G l.x + k)) l.chosen (lifts_on l.from k)) l.k l.lifts
+    (λ k. IsLiftOf (g.T.Sections.list l.tuples) (upper G (first_edge G l.x + k)) l.chosen (lifts_on l.from k)) l.k
+    l.lifts
