@@ -1,8 +1,8 @@
 -- Lists that grow, member by member, and lifts edge by edge.
-use Rattle.std.proofs.Common.{◌≡◌, ℕ, ◌+◌, ◌-◌, ◌*◌, ◌<◌, ◌≤◌, List, [], ◌∷◌, ◌++◌, length, get_or, inl, inr, refl, sym, ap, subst, ◌∙◌, arith}
+use Rattle.std.proofs.Common.{◌≡◌, ℕ, ◌+◌, ◌-◌, ◌*◌, ◌<◌, ◌≤◌, List, [], ◌∷◌, ◌++◌, length, take, drop, get_or, inl, inr, refl, sym, ap, subst, ◌∙◌, arith}
 use Rattle.std.specs.Prelude.{slice_index}
 use Rattle.std.proofs.lemmas.Bool.{cases_eq}
-use Rattle.std.proofs.lemmas.List.{get_or_push, get_or_append_left}
+use Rattle.std.proofs.lemmas.List.{get_or_push, get_or_append_left, get_or-take, get_or-drop, length-drop, length-take-le}
 use Rattle.std.proofs.lemmas.Nat.{mul-add-lt}
 use Rattle.std.proofs.Math.Nat.{mul-le-mul_right}
 use Rattle.bmp_linear.specs.declared.vector.Entry.{Entry}
@@ -13,7 +13,8 @@ use Rattle.bmp_sheaf.specs.States.{Stalk}
 use Rattle.bmp_sheaf.proofs.UpEdges.{up_count_is}
 use Rattle.bmp_sections.specs.TupleLists.{TupleList}
 use Rattle.bmp_stalk.specs.Values.{IsValueOf}
-use Rattle.bmp_stalk.specs.Growth.{AreAppended, IsLiftOf, HoldLifts}
+use Rattle.bmp_stalk.specs.Drafts.{lift_in}
+use Rattle.bmp_stalk.specs.Growth.{AreAppended, lifts_on, IsLiftOf, HoldLifts}
 
 pub appended_none : {A : Type 0} (none : A) (P : ℕ → A → Type 0) (xs : List A) → AreAppended none P 0 xs xs
 appended_none none P xs = record {
@@ -60,28 +61,55 @@ lifts_more {m} {k} {P} {old} {new} h a = record {
 }
 
 -- copies, and behind them values
-pub lifts_appended : {list : TupleList} {y : ℕ} {chosen : List ℕ} {from : List (List Entry)} {start n : ℕ}
-    {old mid new : List (List Entry)} → AreAppended [] (λ i v. v ≡ get_or from (start + i) []) n old mid →
+pub lifts_appended : {list : TupleList} {y : ℕ} {chosen : List ℕ} {vs old mid new : List (List Entry)} →
+    AreAppended [] (λ i v. v ≡ get_or vs i []) (length vs) old mid →
     AreAppended [] (λ i. IsValueOf list (slice_index chosen i) y) (length chosen) mid new →
-    AreAppended [] (IsLiftOf list y chosen from start n) (n + length chosen) old new
-lifts_appended {list} {y} {chosen} {from} {start} {n} {old} {mid} {new} a b = record {
+    AreAppended [] (IsLiftOf list y chosen vs) (length vs + length chosen) old new
+lifts_appended {list} {y} {chosen} {vs} {old} {mid} {new} a b = record {
   longer = omega (arith, a.longer, b.longer);
   before = λ i l. b.before i (omega (arith, l, a.longer)) ∙ a.before i l;
   each = λ g l. record {
-    old = λ early. b.before (length old + g) (omega (arith, early, a.longer)) ∙ a.each g early;
-    new = λ i inside at.
+    old_one = λ early. b.before (length old + g) (omega (arith, early, a.longer)) ∙ a.each g early;
+    new_one = λ i inside at.
         let place : length mid + i ≡ length old + g = omega (arith, at, a.longer) in
         subst (λ k. IsValueOf list (slice_index chosen i) y (get_or new k [])) place (b.each i inside);
   };
 }
 
--- the lifts of one edge among those of a draft, from what is kept of it
-pub run_inside : {G : Graph} {x first past k n : ℕ} {from now : Stalk} → IsUpRange G x first past → k < past - first →
-    from ≡ now → n ≡ length from.degrees → length now.lifts ≡ up_count G x * length now.degrees →
-    k * n + n ≤ length from.lifts
-run_inside {G} {x} {first} {past} {k} {n} {from} {now} range below seen counted all =
-    let edges : k + 1 ≤ up_count G x = omega (arith, below, up_count_is G x first past range) in
-    let inside : length from.lifts ≡ up_count G x * length from.degrees =
-    subst (λ (t : Stalk). length t.lifts ≡ up_count G x * length t.degrees) (sym seen) all in
-    let number : length from.lifts ≡ up_count G x * n = inside ∙ ap (λ m. up_count G x * m) (sym counted) in
-    omega (arith, number, mul-le-mul_right n edges)
+-- the lifts of one edge stand among all
+module _ (t : Stalk) {edges : ℕ} (counted : length t.lifts ≡ edges * length t.degrees) (k : ℕ) (below : k < edges) where
+  pub run_inside : k * length t.degrees + length t.degrees ≤ length t.lifts
+  run_inside =
+      let next : k + 1 ≤ edges = omega (arith, below) in
+      omega (arith, counted, mul-le-mul_right (length t.degrees) next)
+
+  pub lifts_on-length : length (lifts_on t k) ≡ length t.degrees
+  lifts_on-length =
+      let n : ℕ = length t.degrees in
+      let rest : length (drop (k * n) t.lifts) ≡ length t.lifts - k * n = length-drop (k * n) t.lifts in
+      length-take-le n (drop (k * n) t.lifts) (omega (arith, rest, run_inside))
+
+  pub lifts_on-read : (g : ℕ) → g < length t.degrees → get_or (lifts_on t k) g [] ≡ lift_in t k g
+  lifts_on-read g inside =
+      let n : ℕ = length t.degrees in
+      get_or-take n (drop (k * n) t.lifts) g [] inside ∙ get_or-drop (k * n) t.lifts g []
+
+-- the same of what is kept of a draft, with the edges counted from the first one on
+pub edge_inside : {G : Graph} {x first past k n : ℕ} {kept now : Stalk} → IsUpRange G x first past → k < past - first →
+    kept ≡ now → n ≡ length kept.degrees → length now.lifts ≡ up_count G x * length now.degrees →
+    k * n + n ≤ length kept.lifts
+edge_inside {G} {x} {first} {past} {k} {n} {kept} {now} range below seen counted all =
+    let edges : k < up_count G x = omega (arith, below, up_count_is G x first past range) in
+    subst (λ m. k * m + m ≤ length kept.lifts) (sym counted)
+    (run_inside kept (subst (λ (t : Stalk). length t.lifts ≡ up_count G x * length t.degrees) (sym seen) all) k edges)
+
+-- and the part of the kept ones that is read is that of the edge
+pub part_is : {kept now : Stalk} {vs : List (List Entry)} {n : ℕ} (k : ℕ) → vs ≡ kept.lifts → kept ≡ now →
+    n ≡ length kept.degrees → take ((k * n + n) - k * n) (drop (k * n) vs) ≡ lifts_on now k
+part_is {kept} {now} {vs} {n} k items seen counted =
+    let one : (k * n + n) - k * n ≡ n = omega arith in
+    let count : n ≡ length now.degrees = counted ∙ ap (λ (t : Stalk). length t.degrees) seen in
+    let lifts : vs ≡ now.lifts = items ∙ ap (λ (t : Stalk). t.lifts) seen in
+    ap (λ m. take m (drop (k * n) vs)) one
+    ∙ ap (λ m. take m (drop (k * m) vs)) count
+    ∙ ap (λ ws. take (length now.degrees) (drop (k * length now.degrees) ws)) lifts

@@ -22,7 +22,8 @@ use Rattle.bmp_sections.proofs.AboveLemmas.{test_from_above}
 use Rattle.bmp_cover.specs.CoverInputs.{HasTuples, HasValues}
 use Rattle.bmp_stalk.specs.Values.{IsValueOf}
 use Rattle.bmp_stalk.specs.Drafts.{lift_in, IsNext, IsDraft, IsLonger, GrowsBy}
-use Rattle.bmp_stalk.specs.Growth.{AreAppended, IsLiftOf, HoldLifts, IsGrownBy}
+use Rattle.bmp_stalk.specs.Growth.{AreAppended, lifts_on, IsLiftOf, HoldLifts, IsGrownBy}
+use Rattle.bmp_stalk.proofs.AppendedLemmas.{lifts_on-length, lifts_on-read}
 
 -- an edge going up from x has its place among them
 pub up_place_of : (G : Graph) → IsGraph G → (x e : ℕ) → e < edge_count G → lower G e ≡ x →
@@ -33,24 +34,22 @@ up_place_of G is x e below starts =
     record { first = has.0; place = refl; within = omega (arith, has.0, has.1) }
 
 -- the degrees and the lifts make the draft
-module _ {G : Graph} {x d : ℕ} {list : TupleList} {chosen : List ℕ} {from to : Stalk} (is : IsGraph G)
+module _ {G : Graph} {x d : ℕ} {list : TupleList} {chosen : List ℕ} (from to : Stalk) (is : IsGraph G)
+    (counted : length from.lifts ≡ up_count G x * length from.degrees)
     (degrees : AreAppended 0 (λ i b. b ≡ d) (length chosen) from.degrees to.degrees)
     (lifts : HoldLifts (length from.degrees + length chosen)
-    (λ k. IsLiftOf list (upper G (first_edge G x + k)) chosen from.lifts (k * length from.degrees)
-    (length from.degrees)) (up_count G x) to.lifts) where
+    (λ k. IsLiftOf list (upper G (first_edge G x + k)) chosen (lifts_on from k)) (up_count G x) to.lifts) where
   -- the lift of a generator is what was written
   at_edge : (e g : ℕ) → e < edge_count G → lower G e ≡ x → g < length to.degrees →
-      IsLiftOf list (upper G e) chosen from.lifts ((e - first_edge G x) * length from.degrees) (length from.degrees) g
-      (lift_in to (e - first_edge G x) g)
+      IsLiftOf list (upper G e) chosen (lifts_on from (e - first_edge G x)) g (lift_in to (e - first_edge G x) g)
   at_edge e g below starts inside =
       let place = up_place_of G is x e below starts in
       let k : ℕ = e - first_edge G x in
-      let n : ℕ = length from.degrees in
       let m : ℕ = length from.degrees + length chosen in
       let back : first_edge G x + k ≡ e = omega (arith, place.first) in
-      subst (λ w. IsLiftOf list (upper G e) chosen from.lifts (k * n) n g (get_or to.lifts (k * w + g) []))
+      subst (λ w. IsLiftOf list (upper G e) chosen (lifts_on from k) g (get_or to.lifts (k * w + g) []))
       (sym degrees.longer)
-      (subst (λ f. IsLiftOf list (upper G f) chosen from.lifts (k * n) n g (get_or to.lifts (k * m + g) [])) back
+      (subst (λ f. IsLiftOf list (upper G f) chosen (lifts_on from k) g (get_or to.lifts (k * m + g) [])) back
       (lifts.each k g place.within (omega (arith, inside, degrees.longer))))
 
   pub is_grown_by : IsGrownBy G x d list chosen from to
@@ -58,9 +57,17 @@ module _ {G : Graph} {x d : ℕ} {list : TupleList} {chosen : List ℕ} {from to
     degrees = degrees;
     counted = lifts.counted ∙ ap (λ m. up_count G x * m) (sym degrees.longer);
     lifts = λ e g below starts inside.
-        (at_edge e g below starts (omega (arith, inside, degrees.longer))).old inside;
+        let k : ℕ = e - first_edge G x in
+        let within = (up_place_of G is x e below starts).within in
+        let as_many : length (lifts_on from k) ≡ length from.degrees = lifts_on-length from counted k within in
+        (at_edge e g below starts (omega (arith, inside, degrees.longer))).old_one (omega (arith, inside, as_many))
+        ∙ lifts_on-read from counted k within g inside;
     new = λ e i below starts inside.
-        (at_edge e (length from.degrees + i) below starts (omega (arith, inside, degrees.longer))).new i inside refl;
+        let k : ℕ = e - first_edge G x in
+        let within = (up_place_of G is x e below starts).within in
+        let as_many : length (lifts_on from k) ≡ length from.degrees = lifts_on-length from counted k within in
+        (at_edge e (length from.degrees + i) below starts (omega (arith, inside, degrees.longer))).new_one i inside
+        (ap (λ n. n + i) (sym as_many));
   }
 
 -- the lift number i of a list by edge and generator
@@ -198,8 +205,8 @@ module _ {F : Type 0} {s : SheafState F} {x d : ℕ} {list : TupleList} {chosen 
           let m : ℕ = length to.degrees in
           let e : ℕ = first_edge s.graph x + i / m in
           let g : ℕ = i % m in
-          subst
-          (λ v. FitsBelow v (stalk_count s.graph.rank (stalk_of s (upper s.graph e)).degrees (slice_index to.degrees g)))
+          let b : ℕ = slice_index to.degrees (i % length to.degrees) in
+          subst (λ v. FitsBelow v (stalk_count s.graph.rank (stalk_of s (upper s.graph e)).degrees b))
           (place_is is x to h.counted i inside)
           (fits_at e g (place_edge is x to h.counted i inside) (place_starts is x to h.counted i inside)
           (place_generator is x to h.counted i inside));

@@ -8,3 +8,5 @@ pub mod AppendedLemmas
 pub mod GrownLemmas
 pub mod UnderLemmas
 pub mod StalkLemmas
+pub mod ListLemmas
+pub mod AboveLemmas

@@ -1,5 +1,5 @@
 -- The blocks of the degrees that are done, and the part at the end.
-use Rattle.std.proofs.Common.{◌≡◌, ℕ, ◌+◌, ◌<◌, ◌≤◌, List, [], ◌∷◌, ◌++◌, length, get_or, inl, inr, sym, ap, ap₂, subst, ◌∙◌, arith}
+use Rattle.std.proofs.Common.{◌≡◌, ℕ, ◌+◌, ◌<◌, ◌≤◌, List, [], ◌∷◌, ◌++◌, length, get_or, inl, inr, sym, ap, subst, ◌∙◌, arith}
 use Rattle.std.proofs.lemmas.Bool.{cases_eq}
 use Rattle.std.proofs.lemmas.List.{get_or_push, get_or_append_left, get_or_default}
 use Rattle.bmp_linear.specs.declared.blocks.DegreeBlock.{DegreeBlock}
@@ -22,11 +22,11 @@ pub record AreBuilt {F : Type 0} (s : SheafState F) (x : ℕ) (lists : ℕ → T
 pub none_built : {F : Type 0} (s : SheafState F) (x : ℕ) (lists : ℕ → TupleList) (t : Stalk) → AreBuilt s x lists 0 [] t
 none_built s x lists t = record { counted = omega arith; each = λ e below. absurd (omega (arith, below)) }
 
-pub built_more : {F : Type 0} {s : SheafState F} {x : ℕ} {lists : ℕ → TupleList} {d : ℕ} {blocks new : List DegreeBlock}
+pub built_more : {F : Type 0} {s : SheafState F} {x d : ℕ} {lists : ℕ → TupleList} {blocks new : List DegreeBlock}
     {t more : Stalk} → IsNext s x → AreBuilt s x lists d blocks t →
     ((e : ℕ) → e < d → IsLonger s.graph x e t more) → (b : DegreeBlock) → IsBuiltDegree s x d (lists d) b more →
     new ≡ blocks ++ b ∷ [] → AreBuilt s x lists (d + 1) new more
-built_more {F} {s} {x} {lists} {d} {blocks} {new} {t} {more} at h longer b built is = record {
+built_more {F} {s} {x} {d} {lists} {blocks} {new} {t} {more} at h longer b built is = record {
   counted = ap length is ∙ omega (arith, length_more blocks b, h.counted);
   each = λ e below. elim (cases_eq e d) [
     | inl last ↦
@@ -45,26 +45,22 @@ built_more {F} {s} {x} {lists} {d} {blocks} {new} {t} {more} at h longer b built
 }
 
 -- when all degrees are done the part is built
-pub part_is_built : {F : Type 0} {s new : SheafState F} {x : ℕ} {lists : ℕ → TupleList} {part : VertexPart}
-    {t : Stalk} → IsNext s x → IsDraft s x (s.degree + 1) t → AreBuilt s x lists (s.degree + 1) part.blocks t →
-    new ≡ with_stalk s t → part.degrees ≡ t.degrees → part.lifts ≡ t.lifts → part.edges ≡ up_count s.graph x →
+pub part_is_built : {F : Type 0} {s new : SheafState F} {x edges : ℕ} {lists : ℕ → TupleList} {part : VertexPart}
+    {blocks : List DegreeBlock} {t : Stalk} → IsNext s x → IsDraft s x (s.degree + 1) t →
+    AreBuilt s x lists (s.degree + 1) blocks t → new ≡ with_stalk s t → edges ≡ up_count s.graph x →
+    part ≡ record { degrees = t.degrees; edges = edges; lifts = t.lifts; blocks = blocks } →
     IsBuiltPart s new lists part
-part_is_built {F} {s} {new} {x} {lists} {part} {t} at draft h pushed degrees lifts edges =
-    let same : record { degrees = part.degrees; lifts = part.lifts } ≡ t =
-    ap₂ (λ a b. record { degrees = a; lifts = b }) degrees lifts in
-    let final : IsDraft s x (s.degree + 1) (record { degrees = part.degrees; lifts = part.lifts }) =
-    subst (IsDraft s x (s.degree + 1)) (sym same) draft in
-    record {
-      stalk = pushed ∙ ap (with_stalk s) (sym same);
-      is_stalk = subst (λ y. IsStalk s y part.degrees part.lifts) at.next final.stalk;
-      edges = edges ∙ ap (up_count s.graph) at.next;
+part_is_built {F} {s} {new} {x} {edges} {lists} {part} {blocks} {t} at draft h pushed counted made =
+    subst (IsBuiltPart s new lists) (sym made) (record {
+      stalk = pushed;
+      is_stalk = subst (λ y. IsStalk s y t.degrees t.lifts) at.next draft.stalk;
+      edges = counted ∙ ap (up_count s.graph) at.next;
       bounded = λ i none inside.
-          subst (λ z. z ≤ s.degree) (get_or_default part.degrees i 0 none inside)
-          (omega (arith, final.below i inside));
-      values = final.values;
+          subst (λ z. z ≤ s.degree) (get_or_default t.degrees i 0 none inside) (omega (arith, draft.below i inside));
+      values = draft.values;
       blocks = h.counted;
       block = λ d small.
-          subst (λ u. IsBuiltBlock u (next_vertex s) d (lists d) (get_or part.blocks d no_block)) (sym pushed)
-          (subst (λ y. IsBuiltBlock (with_stalk s t) y d (lists d) (get_or part.blocks d no_block)) at.next
+          subst (λ u. IsBuiltBlock u (next_vertex s) d (lists d) (get_or blocks d no_block)) (sym pushed)
+          (subst (λ y. IsBuiltBlock (with_stalk s t) y d (lists d) (get_or blocks d no_block)) at.next
           (built_degree_passes at (h.each d (omega (arith, small)))));
-    }
+    })

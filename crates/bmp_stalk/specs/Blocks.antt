@@ -6,6 +6,7 @@
 --   IsBoundarySoFar G F x d list o             o has the boundary matrix of F, and behind it those
 --   HasKeptBoundary G F x d split o chosen     the columns that the choice keeps are the boundary matrix of F, and a
 --                                              generator of degree d stands in it where its chosen column does
+--   AreTuplesOf list chosen                    each is the number of a tuple of the list
 --   AreChosenTuples chosen sources             each source is a chosen tuple
 --   IsReadOff p split o chosen e               covers and dual forms were read off the choice, and the sources are the
 --                                              chosen tuples
@@ -63,6 +64,9 @@ pub record HasKeptBoundary (G : Graph) (F : SheafData) (x d split : ℕ) (o : Ma
       generator_place G F x d g ≡ split + source_place F x d g
   pub number : (g : ℕ) → g < length (F.degrees x) → slice_index (F.degrees x) g ≡ d →
       source_place F x d g < length chosen
+
+abbrev pub AreTuplesOf : TupleList → List ℕ → Type 0
+AreTuplesOf list chosen = (i : ℕ) → i < length chosen → slice_index chosen i < list.count
 
 abbrev pub one_at : ℕ → List Entry
 one_at place = record { place = place; value = 1 } ∷ []

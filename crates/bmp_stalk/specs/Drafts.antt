@@ -6,6 +6,7 @@
 --   IsDraft s x d t                   t is a stalk at x whose generators have degrees below d
 --   under s                           the sheaf without the stalk that was added last
 --   IsDrafted s x d t                 the last stalk of s is a draft at x
+--   KeepsLifts G x from to            the generators of `from` have the same lifts in `to`
 --   IsLonger G x e from to            `to` has the generators of `from` with their lifts, and behind them some of
 --                                     degrees above e
 --   GrowsBy s x d list chosen from to   so for each chosen tuple one of degree d, with its values as lifts, and

@@ -1,11 +1,12 @@
 -- How a draft grows in memory. In the order to read:
 --   AreAppended none P n old new      the list grew by n members, of which the i-th is P
---   IsLiftOf list y chosen from n g v   v is the lift of the generator g at the vertex y: of an old one, of which there
---                                     are n, that in the list `from`, and of a new one the value of its tuple
+--   lifts_on t k                      the lifts of the stalk t on the edge number k, from 0, of those going up
+--   IsLiftOf list y chosen old g v    v is the lift of the generator g at the vertex y: of an old one that in the list,
+--                                     and of a new one the value of its tuple
 --   HoldLifts m P count lifts         the lifts of m generators on each of the first edges, and they are P
 --   IsGrownBy G x d list chosen from to   `to` has the generators of `from`, and for each chosen tuple one of degree d,
 --                                     with its values as lifts
-use Rattle.std.specs.Prelude.{◌≡◌, ℕ, ◌+◌, ◌-◌, ◌*◌, ◌<◌, List, [], length, slice_index, slice_index_or}
+use Rattle.std.specs.Prelude.{◌≡◌, ℕ, ◌+◌, ◌-◌, ◌*◌, ◌<◌, List, [], length, take, drop, slice_index, slice_index_or}
 use Rattle.bmp_linear.specs.declared.vector.Entry.{Entry}
 use Rattle.bmp_graph.specs.Graph.{Graph, edge_count, lower, upper}
 use Rattle.bmp_sheaf.specs.Written.{first_edge, up_count}
@@ -19,10 +20,13 @@ pub record AreAppended {A : Type 0} (none : A) (P : ℕ → A → Type 0) (n : �
   pub before : (i : ℕ) → i < length old → slice_index_or new i none ≡ slice_index_or old i none
   pub each : (i : ℕ) → i < n → P i (slice_index_or new (length old + i) none)
 
-pub record IsLiftOf (list : TupleList) (y : ℕ) (chosen : List ℕ) (from : List (List Entry)) (start n g : ℕ)
-    (v : List Entry) : Type 0 where
-  pub old : g < n → v ≡ slice_index_or from (start + g) []
-  pub new : (i : ℕ) → i < length chosen → g ≡ n + i → IsValueOf list (slice_index chosen i) y v
+abbrev pub lifts_on : Stalk → ℕ → List (List Entry)
+lifts_on t k = take (length t.degrees) (drop (k * length t.degrees) t.lifts)
+
+pub record IsLiftOf (list : TupleList) (y : ℕ) (chosen : List ℕ) (old : List (List Entry)) (g : ℕ) (v : List Entry)
+    : Type 0 where
+  pub old_one : g < length old → v ≡ slice_index_or old g []
+  pub new_one : (i : ℕ) → i < length chosen → g ≡ length old + i → IsValueOf list (slice_index chosen i) y v
 
 pub record HoldLifts (m : ℕ) (P : ℕ → ℕ → List Entry → Type 0) (count : ℕ) (lifts : List (List Entry)) : Type 0 where
   pub counted : length lifts ≡ count * m

@@ -3,3 +3,4 @@ pub mod Values
 pub mod Drafts
 pub mod Growth
 pub mod BuiltParts
+pub mod Above

@@ -1,5 +1,5 @@
 //! One vertex and one degree: which tuples become generators, with the evidence.
-ghost use Rattle.std.specs.Prelude.{◌≡◌, IfOk};
+ghost use Rattle.std.specs.Prelude.{IfOk};
 ghost use Rattle.bmp_sheaf.specs.States.{sheaf_of};
 ghost use Rattle.bmp_cover.specs.CoverInputs.{HasStalks, HasTuples};
 ghost use Rattle.bmp_stalk.specs.Blocks.{AreChosenTuples, IsChosenAt};

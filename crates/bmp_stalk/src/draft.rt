@@ -1,16 +1,17 @@
 //! A stalk that is built degree by degree, on top of a sheaf.
-ghost use Rattle.std.specs.Prelude.{◌≡◌, ℕ, ◌+◌, ◌<◌, ◌≤◌, All, OnOk, IfOk, length, slice_index};
+ghost use Rattle.std.specs.Prelude.{◌≡◌, ◌+◌, ◌<◌, ◌≤◌, All, OnOk, IfOk, length};
 ghost use Rattle.bmp_linear.specs.SparseVectors.{ValuesBelow};
 ghost use Rattle.bmp_graph.specs.Graph.{vertex_count};
 ghost use Rattle.bmp_sheaf.specs.States.{no_stalk, next_vertex, with_stalk};
 ghost use Rattle.bmp_sheaf.specs.StalkFaults.{IsStalk};
 ghost use Rattle.bmp_cover.specs.CoverInputs.{HasStalks, HasTuples};
+ghost use Rattle.bmp_stalk.specs.Blocks.{AreTuplesOf};
 ghost use Rattle.bmp_stalk.specs.Drafts.{under, IsDrafted, GrowsBy};
 
 use crate::growth::grown;
-use bmp_cert::Degrees;
+use bmp_cert::{Degrees, VertexPart};
 use bmp_field::Field;
-use bmp_linear::{Places, Vectors};
+use bmp_linear::{Blocks, Places, Vectors};
 use bmp_sections::Sections;
 use bmp_sheaf::{Sheaf, SheafFault};
 use std::alloc::{AllocError, Global};
@@ -33,7 +34,7 @@ impl Model for Draft {
 
 impl Draft {
     /// A stalk without generators. Takes no memory.
-    pub fn new(alloc: Global) -> Draft
+    fn new(alloc: Global) -> Draft
         ensures { result ≡ no_stalk }
     {
         Draft {
@@ -41,10 +42,23 @@ impl Draft {
             lifts: Vectors::new(alloc),
         }
     }
+
+    /// The stalk as the part of a certificate, with so many edges going up and these blocks.
+    pub fn into_part(self, edges: u32, blocks: Blocks) -> VertexPart
+        ensures { result
+            ≡ record { degrees = self.degrees; edges = edges; lifts = self.lifts; blocks = blocks } }
+    {
+        VertexPart {
+            degrees: self.degrees,
+            edges,
+            lifts: self.lifts,
+            blocks,
+        }
+    }
 }
 
 /// Adds the draft as the stalk at the next vertex. Since it is one, memory alone can be wanting.
-pub(crate) fn push_draft<F: Field>(sheaf: &mut Sheaf<F>, draft: &Draft) -> Result<(), AllocError>
+fn push_draft<F: Field>(sheaf: &mut Sheaf<F>, draft: &Draft) -> Result<(), AllocError>
     requires left { length sheaf.old.stalks < vertex_count sheaf.old.graph }
     requires values { All (λ v. ValuesBelow v sheaf.old.graph.prime) draft.now.lifts }
     requires stalk { IsStalk sheaf.old (next_vertex sheaf.old) draft.now.degrees draft.now.lifts }
@@ -55,6 +69,18 @@ pub(crate) fn push_draft<F: Field>(sheaf: &mut Sheaf<F>, draft: &Draft) -> Resul
         Err(SheafFault::Memory) => Err(AllocError),
         Err(_) => unreachable!(),
     }
+}
+
+/// Puts a stalk without generators at the next vertex of the sheaf, for its degrees to be built.
+pub fn begin_stalk<F: Field>(alloc: Global, sheaf: &mut Sheaf<F>) -> Result<Draft, AllocError>
+    requires { length sheaf.old.stalks < vertex_count sheaf.old.graph }
+    ensures drafted { IfOk result (IsDrafted sheaf.new (next_vertex sheaf.old) 0) }
+    ensures under { OnOk result (under sheaf.new ≡ sheaf.old) }
+{
+    let _ = sheaf.graph();
+    let draft = Draft::new(alloc);
+    push_draft(sheaf, &draft)?;
+    Ok(draft)
 }
 
 /// The draft with a further generator of degree `d` for each chosen tuple, put in the place of the old one. Where none
@@ -72,7 +98,7 @@ pub(crate) fn next_draft<F: Field, T: Sections>(
     requires drafted { IsDrafted sheaf.old x d draft }
     requires stalks { HasStalks sheaf.old x d }
     requires tuples { HasTuples (under sheaf.old) x d (T.list tuples.now) }
-    requires chosen { (i : ℕ) → i < length chosen.now → slice_index chosen.now i < (T.list tuples.now).count }
+    requires chosen { AreTuplesOf (T.list tuples.now) chosen.now }
     ensures drafted { IfOk result (IsDrafted sheaf.new x (d + 1)) }
     ensures under { OnOk result (under sheaf.new ≡ under sheaf.old) }
     ensures grows { IfOk result (GrowsBy (under sheaf.old) x d (T.list tuples.now) chosen.now draft) }

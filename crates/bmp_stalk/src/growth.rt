@@ -1,12 +1,13 @@
 //! How a draft grows: copies of what it has, and behind the old generators one for each chosen tuple.
-ghost use Rattle.std.specs.Prelude.{◌≡◌, ℕ, ◌+◌, ◌-◌, ◌*◌, ◌^◌, ◌<◌, ◌≤◌, [], IsTrue, OnOk, IfOk, length, slice_index, slice_index_or};
+ghost use Rattle.std.specs.Prelude.{◌≡◌, ◌+◌, ◌^◌, ◌<◌, ◌≤◌, [], IsTrue, OnOk, IfOk, length, slice_index, slice_index_or};
 ghost use Rattle.bmp_graph.specs.Graph.{edge_count, lower, upper};
 ghost use Rattle.bmp_sheaf.specs.Written.{first_edge, up_count};
 ghost use Rattle.bmp_sheaf.specs.States.{IsThere};
 ghost use Rattle.bmp_sheaf.specs.StalkFaults.{HasLifts};
 ghost use Rattle.bmp_cover.specs.CoverInputs.{HasStalks, HasTuples, HasValues};
+ghost use Rattle.bmp_stalk.specs.Blocks.{AreTuplesOf};
 ghost use Rattle.bmp_stalk.specs.Values.{IsValueOf};
-ghost use Rattle.bmp_stalk.specs.Growth.{AreAppended, IsLiftOf, HoldLifts, IsGrownBy};
+ghost use Rattle.bmp_stalk.specs.Growth.{AreAppended, lifts_on, IsLiftOf, HoldLifts, IsGrownBy};
 
 use crate::draft::Draft;
 use bmp_cert::Degrees;
@@ -27,15 +28,13 @@ fn grown_degrees(from: &Degrees, d: u32, count: u32) -> Result<Degrees, AllocErr
     Ok(degrees)
 }
 
-/// Appends copies of the `n` vectors from `start` on.
-fn push_copies(lifts: &mut Vectors, from: &Vectors, start: u32, n: u32) -> Result<(), AllocError>
-    requires { start + n ≤ length from.now }
+/// Appends copies of the vectors.
+fn push_copies(lifts: &mut Vectors, vectors: &[Vector]) -> Result<(), AllocError>
     ensures { OnOk result
-        (AreAppended [] (λ i v. v ≡ slice_index_or from.now (start + i) []) n lifts.old lifts.new) }
+        (AreAppended [] (λ i v. v ≡ slice_index_or vectors.now i []) (length vectors.now) lifts.old lifts.new) }
 {
-    let _ = from.len();
-    for i in 0..n {
-        let copy = from.at(start + i).copy()?;
+    for vector in vectors {
+        let copy = vector.copy()?;
         lifts.push(copy)?;
     }
     Ok(())
@@ -70,7 +69,7 @@ fn push_values<T: Sections>(
     numbers: &mut [u8],
     lifts: &mut Vectors,
 ) -> Result<(), AllocError>
-    requires chosen { (i : ℕ) → i < length chosen.now → slice_index chosen.now i < (T.list tuples.now).count }
+    requires chosen { AreTuplesOf (T.list tuples.now) chosen.now }
     requires vertex { IsTrue ((T.list tuples.now).has y) }
     requires sized { length numbers.old ≡ (T.list tuples.now).size y }
     requires few { length numbers.old < 2 ^ 32 }
@@ -84,7 +83,7 @@ fn push_values<T: Sections>(
     Ok(())
 }
 
-/// Appends the lifts on an edge: the `n` old ones from `start` on, and those of the chosen tuples.
+/// Appends the lifts on an edge: copies of the old ones, and the values of the chosen tuples.
 fn push_lifts<F: Field, T: Sections>(
     alloc: Global,
     sheaf: &Sheaf<F>,
@@ -92,25 +91,22 @@ fn push_lifts<F: Field, T: Sections>(
     d: u32,
     tuples: &T,
     chosen: &Places,
-    from: &Vectors,
-    start: u32,
-    n: u32,
+    old: &[Vector],
     lifts: &mut Vectors,
 ) -> Result<(), AllocError>
     requires edge { e < edge_count sheaf.now.graph }
     requires there { IsThere sheaf.now (lower sheaf.now.graph e) }
     requires degree { d ≤ sheaf.now.degree }
     requires tuples { HasValues sheaf.now d (T.list tuples.now) (upper sheaf.now.graph e) }
-    requires chosen { (i : ℕ) → i < length chosen.now → slice_index chosen.now i < (T.list tuples.now).count }
-    requires old { start + n ≤ length from.now }
+    requires chosen { AreTuplesOf (T.list tuples.now) chosen.now }
     ensures { OnOk result
-        (AreAppended [] (IsLiftOf (T.list tuples.now) (upper sheaf.now.graph e) chosen.now from.now start n)
-        (n + length chosen.now) lifts.old lifts.new) }
+        (AreAppended [] (IsLiftOf (T.list tuples.now) (upper sheaf.now.graph e) chosen.now old.now)
+        (length old.now + length chosen.now) lifts.old lifts.new) }
 {
     let y = sheaf.graph().edge(e).upper;
     let size = sheaf.upper_rows(e, d).cols() as usize;
     let mut numbers = vec![in alloc; 0; size]?;
-    push_copies(lifts, from, start, n)?;
+    push_copies(lifts, old)?;
     push_values(alloc, tuples, y, chosen, &mut numbers, lifts)?;
     Ok(())
 }
@@ -127,30 +123,20 @@ fn grown_lifts<F: Field, T: Sections>(
 ) -> Result<Vectors, AllocError>
     requires stalks { HasStalks sheaf.now x d }
     requires tuples { HasTuples sheaf.now x d (T.list tuples.now) }
-    requires chosen { (i : ℕ) → i < length chosen.now → slice_index chosen.now i < (T.list tuples.now).count }
+    requires chosen { AreTuplesOf (T.list tuples.now) chosen.now }
     requires counted { HasLifts sheaf.now x from.now.degrees from.now.lifts }
-    ensures { let G = sheaf.now.graph in let n = length from.now.degrees in
-        IfOk result (HoldLifts (n + length chosen.now)
-        (λ k. IsLiftOf (T.list tuples.now) (upper G (first_edge G x + k)) chosen.now from.now.lifts (k * n) n)
+    ensures { let G = sheaf.now.graph in
+        IfOk result (HoldLifts (length from.now.degrees + length chosen.now)
+        (λ k. IsLiftOf (T.list tuples.now) (upper G (first_edge G x + k)) chosen.now (lifts_on from.now k))
         (up_count G x)) }
 {
     let (first, past) = sheaf.graph().up(x);
-    let n = from.degrees.len();
-    let _ = from.lifts.len();
+    let n = from.degrees.len() as usize;
     let mut lifts = Vectors::new(alloc);
     for k in 0..past - first {
-        push_lifts(
-            alloc,
-            sheaf,
-            first + k,
-            d,
-            tuples,
-            chosen,
-            &from.lifts,
-            k * n,
-            n,
-            &mut lifts,
-        )?;
+        let start = k as usize * n;
+        let old = &from.lifts.as_slice()[start..start + n];
+        push_lifts(alloc, sheaf, first + k, d, tuples, chosen, old, &mut lifts)?;
     }
     Ok(lifts)
 }
@@ -167,7 +153,7 @@ pub(crate) fn grown<F: Field, T: Sections>(
 ) -> Result<Draft, AllocError>
     requires stalks { HasStalks sheaf.now x d }
     requires tuples { HasTuples sheaf.now x d (T.list tuples.now) }
-    requires chosen { (i : ℕ) → i < length chosen.now → slice_index chosen.now i < (T.list tuples.now).count }
+    requires chosen { AreTuplesOf (T.list tuples.now) chosen.now }
     requires counted { HasLifts sheaf.now x from.now.degrees from.now.lifts }
     ensures { IfOk result (IsGrownBy sheaf.now.graph x d (T.list tuples.now) chosen.now from.now) }
 {

@@ -1,10 +1,10 @@
 //! The boundary map of a stalk with the boundaries of tuples behind it, as columns of one matrix.
-ghost use Rattle.std.specs.Prelude.{◌≡◌, ℕ, ◌+◌, ◌%◌, ◌^◌, ◌<◌, ◌≤◌, IsTrue, OnOk, IfOk, length, slice_index};
-ghost use Rattle.bmp_math.specs.Matrices.{Matrix, NumbersBelow, SameMatrix, combination};
+ghost use Rattle.std.specs.Prelude.{◌≡◌, ℕ, ◌+◌, ◌^◌, ◌<◌, ◌≤◌, IsTrue, OnOk, IfOk, length, slice_index};
+ghost use Rattle.bmp_math.specs.Matrices.{NumbersBelow, SameMatrix};
 ghost use Rattle.bmp_linear.specs.SparseVectors.{FitsBelow, ValuesBelow, number_at};
 ghost use Rattle.bmp_linear.specs.RowTables.{matrix_of_numbers};
 ghost use Rattle.bmp_graph.specs.Graph.{edge_count, lower, upper};
-ghost use Rattle.bmp_sheaf.specs.Coordinates.{stalk_count, edge_module_count, boundary_start, boundary_count};
+ghost use Rattle.bmp_sheaf.specs.Coordinates.{stalk_count, edge_module_count, boundary_start};
 ghost use Rattle.bmp_sheaf.specs.States.{IsThere, sheaf_of};
 ghost use Rattle.bmp_cover.specs.CoverInputs.{HasStalks, HasTuples, HasValues};
 ghost use Rattle.bmp_stalk.specs.Blocks.{IsBoundarySoFar};

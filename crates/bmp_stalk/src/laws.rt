@@ -1,5 +1,6 @@
 //! Laws of the definitions, each the contract of a function without a body.
 ghost use Rattle.bmp_stalk.specs.Blocks.{ChosenColumnsPass, GrownStalksHaveKeptBoundaries, GrownStalksPass, KernelPassesOnEqual};
+ghost use Rattle.bmp_stalk.specs.Above.{EquationsStay, EqualValuesPass, EquationBlocksPass};
 ghost use Rattle.bmp_stalk.specs.Drafts.{BuiltDegreesPass, BuiltDegreesStay};
 
 use bmp_field::Field;
@@ -26,4 +27,16 @@ pub fn kernel_passes_on_equal()
 pub fn built_degrees_pass<F: Field>()
     ensures passes { BuiltDegreesPass F }
     ensures stay { BuiltDegreesStay F }
+{}
+
+/// The edge equations over the vertices above a vertex rest on the stalks there, and the comparisons on the tuples'
+/// values.
+pub fn equations_stay()
+    ensures equations { EquationsStay }
+    ensures values { EqualValuesPass }
+{}
+
+/// What was built from the kernel of the edge equations beside a draft passes beside the stalk that grew from it.
+pub fn equation_blocks_pass<F: Field>()
+    ensures { EquationBlocksPass F }
 {}

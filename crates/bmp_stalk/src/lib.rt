@@ -16,6 +16,6 @@ pub mod laws;
 pub mod stalk;
 
 pub use choice::{Choice, choose_generators};
-pub use draft::Draft;
+pub use draft::{Draft, begin_stalk};
 pub use joined::joined_boundary;
 pub use stalk::{BuiltDegree, build_degree, build_stalk};

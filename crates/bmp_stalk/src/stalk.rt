@@ -1,14 +1,13 @@
 //! The stalk at the next vertex, degree by degree, with its evidence by levels.
-ghost use Rattle.std.specs.Prelude.{◌≡◌, ℕ, ◌+◌, ◌-◌, ◌^◌, ◌<◌, ◌≤◌, OnOk, IfOk, length};
+ghost use Rattle.std.specs.Prelude.{◌≡◌, ℕ, ◌+◌, ◌<◌, ◌≤◌, OnOk, IfOk, length};
 ghost use Rattle.bmp_graph.specs.Graph.{vertex_count};
-ghost use Rattle.bmp_sheaf.specs.States.{IsThere, no_stalk, next_vertex, with_stalk, sheaf_of};
-ghost use Rattle.bmp_sheaf.specs.Written.{up_count};
+ghost use Rattle.bmp_sheaf.specs.States.{IsThere, sheaf_of};
 ghost use Rattle.bmp_cover.specs.CoverInputs.{HasTuples};
-ghost use Rattle.bmp_stalk.specs.Drafts.{under, IsNext, AreFew, IsDrafted, IsLonger, IsBuiltDegree};
+ghost use Rattle.bmp_stalk.specs.Drafts.{under, AreFew, IsDrafted, IsLonger, IsBuiltDegree};
 ghost use Rattle.bmp_stalk.specs.BuiltParts.{list_at, HaveMembers, IsBuiltPart};
 
 use crate::choice::choose_generators;
-use crate::draft::{Draft, next_draft, push_draft};
+use crate::draft::{Draft, begin_stalk, next_draft};
 use bmp_cert::VertexPart;
 use bmp_field::Field;
 use bmp_levels::Family;
@@ -91,8 +90,7 @@ pub fn build_stalk<F: Field>(
 {
     let x = sheaf.graph().vertices() - 1 - sheaf.pushed();
     let (first, past) = sheaf.graph().up(x);
-    let mut draft = Draft::new(alloc);
-    push_draft(sheaf, &draft)?;
+    let mut draft = begin_stalk(alloc, sheaf)?;
     let mut blocks = Blocks::new(alloc);
     for d in 0..sheaf.degree() + 1 {
         let members = families[d as usize].members(counts[d as usize]);
@@ -100,10 +98,5 @@ pub fn build_stalk<F: Field>(
         draft = built.draft;
         blocks.push(built.block)?;
     }
-    Ok(VertexPart {
-        degrees: draft.degrees,
-        edges: past - first,
-        lifts: draft.lifts,
-        blocks,
-    })
+    Ok(draft.into_part(past - first, blocks))
 }

@@ -16,7 +16,8 @@ push_draft-requires-clause-values g c =
     let h = c.requires.drafted in
     let below : under c.args.sheaf.now ≡ c.pop_vertex.new.self =
     under_pushed c.pop_vertex.ensures.0 c.pop_vertex.ensures.1 in
-    let longer = draft_next h.next c.requires.degree h.draft c.requires.tuples c.requires.chosen c.in_ok-longer.ensures in
+    let longer =
+    draft_next h.next c.requires.degree h.draft c.requires.tuples c.requires.chosen c.in_ok-longer.ensures in
     subst (λ w. All (λ v. ValuesBelow v w.graph.prime) c.in_ok-longer.longer.lifts) below longer.values
 
 pub push_draft-requires-clause-stalk : goal.push_draft-requires-clause-stalk
@@ -25,7 +26,8 @@ push_draft-requires-clause-stalk g c =
     let to = c.in_ok-longer.longer in
     let below : under c.args.sheaf.now ≡ c.pop_vertex.new.self =
     under_pushed c.pop_vertex.ensures.0 c.pop_vertex.ensures.1 in
-    let longer = draft_next h.next c.requires.degree h.draft c.requires.tuples c.requires.chosen c.in_ok-longer.ensures in
+    let longer =
+    draft_next h.next c.requires.degree h.draft c.requires.tuples c.requires.chosen c.in_ok-longer.ensures in
     subst (λ w. IsStalk w (next_vertex w) to.degrees to.lifts) below
     (subst (λ y. IsStalk (under c.args.sheaf.now) y to.degrees to.lifts) h.next.next longer.stalk)
 

@@ -12,4 +12,4 @@ returns g c =
     (λ (t : Stalk). AreAppended 0 (λ i b. b ≡ c.args.d) (length c.args.chosen.now) t.degrees new) c.from.view_is
     (subst (λ n. AreAppended 0 (λ i b. b ≡ c.args.d) n c.from.inside.degrees new) c.len.ensures
     c.in_ok-degrees.ensures) in
-    is_grown_by c.graph.ensures.state.over.is_graph degrees c.in_ok-lifts.ensures
+    is_grown_by c.args.from.now _ c.graph.ensures.state.over.is_graph c.requires.counted degrees c.in_ok-lifts.ensures

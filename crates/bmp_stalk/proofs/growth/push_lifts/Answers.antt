@@ -8,9 +8,11 @@ pub returns : goal.returns
 returns g c =
     let list = g.T.Sections.list c.args.tuples.now in
     let chosen = c.args.chosen.now in
+    let old = c.args.old.now in
+    let seen : upper c.graph.result.now c.args.e ≡ upper c.args.sheaf.now.graph c.args.e =
+    ap (λ k. upper k c.args.e) c.graph.ensures.graph in
     let up : c.edge.result.now.upper ≡ upper c.args.sheaf.now.graph c.args.e =
-    c.edge.ensures.upper ∙ ap (λ k. upper k c.args.e) c.graph.ensures.graph in
+    ◌∙◌ {b = upper c.graph.result.now c.args.e} c.edge.ensures.upper seen in
     subst
-    (λ y. AreAppended [] (IsLiftOf list y chosen c.args.from.now c.args.start c.args.n) (c.args.n + length chosen)
-    c.args.lifts.now c.push_values.new.lifts) up
-    (lifts_appended c.in_ok-push_copies.ensures c.in_ok-push_values.ensures)
+    (λ y. AreAppended [] (IsLiftOf list y chosen old) (length old + length chosen) c.args.lifts.now
+    c.push_values.new.lifts) up (lifts_appended c.in_ok-push_copies.ensures c.in_ok-push_values.ensures)

@@ -8,5 +8,6 @@ use Rattle.bmp_stalk.proofs.growth.push_values.Given as goal
 abbrev pub invariant-loop-i : goal.invariant-loop-i
 invariant-loop-i g l = record {
   sized : length l.numbers ≡ length l.fn.numbers;
-  values : AreAppended [] (λ i. IsValueOf (g.T.Sections.list l.tuples) (slice_index l.chosen i) l.y) l.i l.fn.lifts l.lifts;
+  values : AreAppended [] (λ i. IsValueOf (g.T.Sections.list l.tuples) (slice_index l.chosen i) l.y) l.i l.fn.lifts
+      l.lifts;
 }

@@ -26,8 +26,9 @@ loop-i-preserved g c =
     let row = c.read_row.new.vector in
     let prime : g.F.Field.size c.field-f.result.now ≡ G.prime =
     ap g.F.Field.size c.field-f.ensures.field ∙ c.field-f.ensures.size in
+    let seen : upper c.graph.result.now e ≡ upper G e = ap (λ k. upper k e) c.graph.ensures.graph in
     let up : c.edge.result.now.upper ≡ upper G e =
-    c.edge.ensures.upper ∙ ap (λ k. upper k e) c.graph.ensures.graph in
+    ◌∙◌ {b = upper c.graph.result.now e} c.edge.ensures.upper seen in
     let h : IsEdgeOf G F x d e list low high values = record {
       over = c.lower_rows-low.ensures.state.over;
       is_edge = c.requires.edge;

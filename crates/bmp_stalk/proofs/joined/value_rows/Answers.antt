@@ -10,5 +10,6 @@ loop-c-preserved g c =
     c.write_values.auto.numbers ∙ c.loop-c.invariant.sized in
     record {
       sized = sized;
-      rows = rows_more {a = value_matrix list c.args.y} c.loop-c.invariant.rows c.write_values.ensures c.in_ok-push_numbers.ensures.ok;
+      rows = rows_more {a = value_matrix list c.args.y} c.loop-c.invariant.rows c.write_values.ensures
+          c.in_ok-push_numbers.ensures.ok;
     }

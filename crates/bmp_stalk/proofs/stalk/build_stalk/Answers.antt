@@ -1,7 +1,7 @@
 use Rattle.std.proofs.Common.{◌≡◌, ℕ, ◌+◌, ◌-◌, ◌<◌, length, get_or, sym, ap, ap₂, subst, ◌∙◌, arith}
 use Rattle.std.proofs.lemmas.List.{get_or_read}
 use Rattle.bmp_graph.specs.Graph.{IsUpRange}
-use Rattle.bmp_sheaf.specs.States.{Stalk, with_stalk}
+use Rattle.bmp_sheaf.specs.States.{with_stalk}
 use Rattle.bmp_sheaf.proofs.UpEdges.{up_count_is}
 use Rattle.bmp_levels.specs.Lists.{first_members}
 use Rattle.bmp_levels.specs.Runs.{FamilyTable, list_of}
@@ -19,12 +19,13 @@ loop-d-preserved g c =
     let new = c.in_ok-built.built in
     let members = c.members-members.result in
     let bound : c.degree-d-end.result ≡ s.degree =
-    c.degree-d-end.ensures.degree ∙ ap (λ w. w.degree) c.in_ok-push_draft.ensures in
+    c.degree-d-end.ensures.degree ∙ ap (λ w. w.degree) c.in_ok-draft.ensures.under in
     let inside : d < length c.args.families.now = omega (arith, c.loop-d-test.true, bound, c.requires.families) in
     let own : members.family.now ≡ get_or c.args.families.now d no_family =
     c.members-members.ensures.family
     ∙ get_or_read c.args.families.now d c.index-families-d.result inside c.index-families-d.is no_family in
-    let same : first_members members.count (list_of members.family.now) ≡ list_at c.args.families.now c.args.counts.now d =
+    let lists = list_at c.args.families.now c.args.counts.now in
+    let same : first_members members.count (list_of members.family.now) ≡ lists d =
     ap₂ (λ n (f : FamilyTable). first_members n (list_of f)) c.members-members.ensures.count own in
     record {
       drafted = c.in_ok-built.ensures.drafted;
@@ -33,9 +34,9 @@ loop-d-preserved g c =
           built_more (subst (λ w. IsNext w x) h.under h.drafted.next) h.built
           (λ e lower. subst (λ w. IsLonger w.graph x e c.loop-d.draft new.draft) h.under
           (c.in_ok-built.ensures.longer e lower)) new.block
-          (subst (λ w. IsBuiltDegree w x d (list_at c.args.families.now c.args.counts.now d) new.block new.draft)
-          h.under
-          (subst (λ l. IsBuiltDegree (under c.loop-d.sheaf) x d l new.block new.draft) same c.in_ok-built.ensures.built))
+          (subst (λ w. IsBuiltDegree w x d (lists d) new.block new.draft) h.under
+          (subst (λ l. IsBuiltDegree (under c.loop-d.sheaf) x d l new.block new.draft) same
+          c.in_ok-built.ensures.built))
           c.in_ok-push.ensures.ok;
     }
 
@@ -50,12 +51,11 @@ returns g c =
     let lists = list_at c.args.families.now c.args.counts.now in
     let range = subst (λ k. IsUpRange k x first past) c.graph-2.ensures.graph c.up-first.ensures.range in
     let bound : c.degree-d-end.result ≡ s.degree =
-    c.degree-d-end.ensures.degree ∙ ap (λ w. w.degree) c.in_ok-push_draft.ensures in
+    c.degree-d-end.ensures.degree ∙ ap (λ w. w.degree) c.in_ok-draft.ensures.under in
     let all : c.loop-d.d ≡ s.degree + 1 = omega (arith, c.loop-d-test.false, c.loop-d.auto.d-end, bound) in
     let end : IsDraft s x (s.degree + 1) draft =
     subst (λ n. IsDraft s x n draft) all (subst (λ w. IsDraft w x c.loop-d.d draft) h.under h.drafted.draft) in
     part_is_built (subst (λ w. IsNext w x) h.under h.drafted.next) end
     (subst (λ n. AreBuilt s x lists n c.loop-d.blocks draft) all h.built)
-    (h.drafted.last ∙ ap (λ w. with_stalk w draft) h.under)
-    (ap (λ (t : Stalk). t.degrees) c.draft-2.view_is) (ap (λ (t : Stalk). t.lifts) c.draft-2.view_is)
-    (sym (up_count_is s.graph x first past range))
+    (h.drafted.last ∙ ap (λ w. with_stalk w draft) h.under) (sym (up_count_is s.graph x first past range))
+    c.into_part.ensures
