@@ -3,6 +3,7 @@ ghost use Rattle.std.specs.Prelude.{IsTrue};
 
 use crate::matrices::field;
 use bmp_field::{BadPrime, Field, PrimeField};
+use bmp_packed::BitField;
 use std::test::Fail;
 
 /// Whether a product with a sum is the sum of the products, which the trait's clauses say it is.
@@ -31,6 +32,26 @@ fn primes_to_61_are_taken(rt: HostRuntime) -> Result<(), Fail> {
         let refused = PrimeField::new(p).err() == Some(BadPrime);
         assert_eq!(rt; refused, !primes.contains(&p), "{p}");
     }
+    Ok(())
+}
+
+#[test]
+fn bits_are_numbers_modulo_2(rt: HostRuntime) -> Result<(), Fail> {
+    let f = BitField::new();
+    // two numbers, and of these the sum, the product and the negative of the first
+    for (a, b, want) in [
+        (0, 0, [0, 0, 0]),
+        (0, 1, [1, 0, 0]),
+        (1, 0, [1, 0, 1]),
+        (1, 1, [0, 1, 1]),
+    ] {
+        assert!(rt;
+            f.is_value(a) && f.is_value(b) && distributes(&f, a, b, a),
+            "{a} and {b}"
+        );
+        assert_eq!(rt; [f.add(a, b), f.mul(a, b), f.neg(a)], want, "{a} and {b}");
+    }
+    assert!(rt; size_of_shared(f) == 2 && f.inv(1) == 1 && !f.is_value(2));
     Ok(())
 }
 
