@@ -1,9 +1,8 @@
 -- The first block that is refused, of some of the blocks.
-use Rattle.std.proofs.Common.{◌≡◌, ℕ, ◌+◌, ◌/◌, ◌<◌, ◌≤◌, ◌⊎◌, Option, Some, None, ltb, sym, subst, inl, inr, arith}
+use Rattle.std.proofs.Common.{ℕ, ◌+◌, ◌/◌, ◌<◌, ◌≤◌, ◌⊎◌, Option, Some, None, ltb, sym, subst, inl, inr, arith}
 use Rattle.std.proofs.Math.Nat.{mod-lt}
 use Rattle.std.proofs.lemmas.Bool.{cases_eq, cases_lt, cond-true, cond-false, lt-ltb, le-ltb}
 use Rattle.bmp_check.specs.declared.kept.Kept.{Kept}
-use Rattle.bmp_check.specs.declared.refusal.Refusal.{Refusal}
 use Rattle.bmp_check.specs.declared.shaped.Shaped.{Shaped}
 use Rattle.bmp_graph.specs.Graph.{vertex_count}
 use Rattle.bmp_check.specs.BlockOrder.{block_count}

@@ -1,5 +1,4 @@
-use Rattle.std.proofs.Common.{[], ◌∷◌, None, length, sym, ap, subst, ◌∙◌, arith, length-append}
-use Rattle.std.specs.List.{All}
+use Rattle.std.proofs.Common.{[], ◌∷◌, None, length, sym, ap, subst, arith, length-append}
 use Rattle.std.proofs.lemmas.List.Elements.{All-push}
 use Rattle.bmp_check.specs.declared.pieces.Piece.{Piece}
 use Rattle.bmp_check.specs.Pieces.{HaveRoom}
