@@ -21,3 +21,4 @@ pub mod AcceptedLemmas
 pub mod Soundness
 pub mod FamilyLemmas
 pub mod PassLemmas
+pub mod FirstLemmas

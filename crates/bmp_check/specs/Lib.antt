@@ -18,3 +18,5 @@ pub mod NumberedBlocks
 pub mod DegreeBlocks
 pub mod Settings
 pub mod CheckErrors
+pub mod FirstRefusals
+pub mod Pieces

@@ -14,37 +14,17 @@ ghost use Rattle.bmp_check.specs.ShapedViews.{graph_in, method_at, cert_in};
 ghost use Rattle.bmp_check.specs.PartsSheaf.{parts_sheaf};
 ghost use Rattle.bmp_check.specs.Verdicts.{BlocksPass, IsFirstBlockRefusal, Passes, IsFirstRefusal};
 
-use crate::block::check_block;
-use crate::blocks::block_count;
 use crate::given::Given;
-use crate::refusal::{CheckError, Refusal};
-use crate::scratch::{BlockScratch, scratch_for};
+use crate::pieces::{check_blocks, pieces_for};
+use crate::refusal::CheckError;
 use crate::setting::Setting;
 use crate::top::check_top;
 use crate::written::{check_sizes, shaped_of};
 use bmp_cert::{Accepted, Cert, Parts, Ranks};
 use bmp_graph::MomentGraph;
+use bmp_par::{Gate, OpenGate};
 use std::alloc::Global;
 use std::thread::Threads;
-
-/// Checks the blocks in their order, up to the first that is refused.
-fn check_blocks(s: &Setting, scratch: &mut BlockScratch) -> Result<(), Refusal>
-    requires set { IsSet s.now }
-    requires room { let shaped = shaped_in s.now in
-        IsRoomFor (graph_in shaped) (method_at shaped) (cert_in shaped) scratch.old }
-    ensures ok { let shaped = shaped_in s.now in
-        OnOk result (BlocksPass (graph_in shaped) (method_at shaped) (cert_in shaped)) }
-    ensures first { let shaped = shaped_in s.now in
-        IfErr result (IsFirstBlockRefusal (graph_in shaped) (method_at shaped) (cert_in shaped)) }
-    ensures differ { IfErr result (λ r. r.left ≢ r.right) }
-{
-    let shaped = s.shaped();
-    let vertices = shaped.graph().vertices();
-    'each: for i in 0..block_count(vertices, shaped.given().degree) {
-        check_block(s, i, scratch)?;
-    }
-    Ok(())
-}
 
 /// Checks parts of the vertices of a moment graph. It answers the numbers of generators exactly where no comparison
 /// fails, and else the first that fails: the number of vertices and all sizes come first, then the greatest vertex,
@@ -52,7 +32,7 @@ fn check_blocks(s: &Setting, scratch: &mut BlockScratch) -> Result<(), Refusal>
 /// degree up to the bound, no generator has a degree above the bound, and each number is the dimension of the boundary
 /// module modulo multiples of positive degree.
 ///
-/// The blocks are checked in their order, whatever the number of workers is.
+/// Each worker checks the blocks of some of the vertices, and the answer is the same for any number of workers.
 pub fn check_graph(
     rt: &(impl Threads + Sync),
     alloc: Global,
@@ -75,7 +55,33 @@ pub fn check_graph(
     ensures refused { IfErr result
         (IsRefusedBy (IsFirstRefusal graph.now version (record { degree = degree; parts = parts.now }))) }
 {
-    let _workers = workers;
+    check_graph_with(rt, alloc, graph, degree, version, parts, workers, &OpenGate)
+}
+
+/// The same with a gate, which each worker passes before its blocks.
+pub fn check_graph_with<W: Gate>(
+    rt: &(impl Threads + Sync),
+    alloc: Global,
+    graph: &MomentGraph,
+    degree: u32,
+    version: u8,
+    parts: &Parts,
+    workers: u32,
+    gate: &W,
+) -> Result<Ranks, CheckError>
+    requires checkable { IsCheckable graph.now version (record { degree = degree; parts = parts.now }) }
+    requires workers { (1 ≤ workers) × (workers ≤ 32) }
+    ensures ranks { IfOk result (IsRanksOf (record { degree = degree; parts = parts.now })) }
+    ensures passes { OnOk result (Passes graph.now version (record { degree = degree; parts = parts.now })) }
+    ensures sheaf { let w : Written = record { degree = degree; parts = parts.now } in
+        OnOk result (IsBradenMacPherson graph.now (parts_sheaf graph.now w) degree (top_vertex graph.now)) }
+    ensures bounded { let w : Written = record { degree = degree; parts = parts.now } in
+        OnOk result (HasGeneratorsUpTo graph.now (parts_sheaf graph.now w) degree) }
+    ensures dimensions { let w : Written = record { degree = degree; parts = parts.now } in
+        OnOk result (CountsAreDimensions graph.now (parts_sheaf graph.now w) degree (top_vertex graph.now)) }
+    ensures refused { IfErr result
+        (IsRefusedBy (IsFirstRefusal graph.now version (record { degree = degree; parts = parts.now }))) }
+{
     let given = Given {
         degree,
         version,
@@ -85,8 +91,8 @@ pub fn check_graph(
     check_top(&given)?;
     let shaped = shaped_of(alloc, graph, &given, sizes)?;
     let setting = Setting::of(alloc, shaped)?;
-    let mut scratch = scratch_for(alloc, setting.shaped())?;
-    check_blocks(&setting, &mut scratch)?;
+    let mut pieces = pieces_for(alloc, setting.shaped(), workers)?;
+    check_blocks(rt, &setting, workers, &mut pieces, gate)?;
     let ranks = Ranks::of_parts(alloc, parts, degree)?;
     Ok(ranks)
 }
@@ -113,7 +119,33 @@ pub fn check(
     ensures refused { IfErr result
         (IsRefusedBy (IsFirstRefusal (graph_of (prepared_of a.now)) c.now.version (written_by c.now))) }
 {
-    check_graph(
+    check_with(rt, alloc, a, c, workers, &OpenGate)
+}
+
+/// The same with a gate, which each worker passes before its blocks.
+pub fn check_with<W: Gate>(
+    rt: &(impl Threads + Sync),
+    alloc: Global,
+    a: &Accepted,
+    c: &Cert,
+    workers: u32,
+    gate: &W,
+) -> Result<Ranks, CheckError>
+    requires formed { IsWellFormed c.now }
+    requires job { c.now.job ≡ job_of (prepared_of a.now) }
+    requires workers { (1 ≤ workers) × (workers ≤ 32) }
+    ensures ranks { IfOk result (IsRanksOf (written_by c.now)) }
+    ensures passes { OnOk result (Passes (graph_of (prepared_of a.now)) c.now.version (written_by c.now)) }
+    ensures sheaf { let G = graph_of (prepared_of a.now) in
+        OnOk result (IsBradenMacPherson G (parts_sheaf G (written_by c.now)) c.now.job.degree (top_vertex G)) }
+    ensures bounded { let G = graph_of (prepared_of a.now) in
+        OnOk result (HasGeneratorsUpTo G (parts_sheaf G (written_by c.now)) c.now.job.degree) }
+    ensures dimensions { let G = graph_of (prepared_of a.now) in
+        OnOk result (CountsAreDimensions G (parts_sheaf G (written_by c.now)) c.now.job.degree (top_vertex G)) }
+    ensures refused { IfErr result
+        (IsRefusedBy (IsFirstRefusal (graph_of (prepared_of a.now)) c.now.version (written_by c.now))) }
+{
+    check_graph_with(
         rt,
         alloc,
         a.graph(),
@@ -121,5 +153,6 @@ pub fn check(
         c.version,
         &c.vertices,
         workers,
+        gate,
     )
 }

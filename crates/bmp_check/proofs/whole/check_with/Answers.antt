@@ -6,10 +6,10 @@ use Rattle.bmp_cert.specs.JobRules.{rules, KeepsAll}
 use Rattle.bmp_cert.specs.declared.job.Job.{Job}
 use Rattle.bmp_check.specs.Accepted.{IsCheckable}
 use Rattle.bmp_check.proofs.AcceptedLemmas.{job_is_checkable}
-use Rattle.bmp_check.proofs.whole.check.Goals as goal
+use Rattle.bmp_check.proofs.whole.check_with.Goals as goal
 
-pub check_graph-requires-clause-checkable : goal.check_graph-requires-clause-checkable
-check_graph-requires-clause-checkable g c = λ ks lives.
+pub check_graph_with-requires-clause-checkable : goal.check_graph_with-requires-clause-checkable
+check_graph_with-requires-clause-checkable g c = λ ks lives.
     let cert = c.args.c.now in
     let prepared = c.args.a.now.prepared in
     let same = sym c.requires.job in

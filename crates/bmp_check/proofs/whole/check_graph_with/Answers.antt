@@ -1,10 +1,12 @@
-use Rattle.std.proofs.Common.{ap, ◌∙◌}
+use Rattle.std.proofs.Common.{ap, sym, subst, ◌∙◌}
 use Rattle.std.proofs.lemmas.Result.{err_from_is_err_and}
 use Rattle.bmp_cert.specs.Counts.{Written}
+use Rattle.bmp_check.specs.declared.shaped.Shaped.{Shaped}
+use Rattle.bmp_check.specs.Pieces.{HaveRoom}
 use Rattle.bmp_check.specs.ShapedViews.{graph_in, version_in, cert_in}
 use Rattle.bmp_check.proofs.WholeLemmas.{all_pass, block_refused}
 use Rattle.bmp_check.proofs.Soundness.{passed_is_braden_macpherson, passed_generators_are_bounded, passed_counts_are_dimensions}
-use Rattle.bmp_check.proofs.whole.check_graph.Goals as goal
+use Rattle.bmp_check.proofs.whole.check_graph_with.Goals as goal
 
 pub returns-clause-passes : goal.returns-clause-passes
 returns-clause-passes g c =
@@ -45,3 +47,8 @@ returns-in_err-check_blocks-clause-refused g c =
           c.in_ok-sizes.ensures.shape c.in_ok-check_top.ensures.first c.in_err-check_blocks.ensures.first,
       c.in_err-check_blocks.ensures.differ,
     )
+
+pub check_blocks-requires-clause-room : goal.check_blocks-requires-clause-room
+check_blocks-requires-clause-room g c = λ κs within.
+    subst (λ (u : Shaped). HaveRoom u c.deref_mut.result.now) c.shaped.ensures
+    (subst (HaveRoom c.shaped.result.now) (sym c.deref_mut.ensures.value) c.in_ok-pieces.ensures.room)
