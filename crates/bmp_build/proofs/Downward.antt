@@ -1,5 +1,5 @@
--- What is built on the way down: what the parts that are there say of each continuation, what a vertex more leaves as it
--- is, and that the end is built.
+-- What is built on the way down: what the parts that are there say of each continuation, what a vertex more leaves as
+-- it is, and that the end is built.
 use Rattle.std.proofs.Common.{◌≡◌, ℕ, suc, ◌+◌, ◌-◌, ◌<◌, ◌≤◌, List, [], ◌∷◌, ◌++◌, length, get_or, take, map, replicate, refl, sym, ap, ap₂, subst, ◌∙◌, inl, inr, arith}
 use Rattle.std.specs.Prelude.{All}
 use Rattle.std.proofs.Math.ListN.{get_or-map}
@@ -259,8 +259,8 @@ module _
               subst (λ n. n < s.graph.prime)
               (sym (same.value j y e (omega (arith, is_member, own_count d within, same.count)) inside
               (subst (λ n. e < n) (same.size y inside) coordinate)))
-              (subst (λ (H : Graph). (family G (parts_sheaf G (filled h)) d (top_vertex G) (λ z. block_of (filled h) z d)
-              (suc k)).value j y e < H.prime) (sym h.graph)
+              (subst (λ (H : Graph). (family G (parts_sheaf G (filled h)) d (top_vertex G)
+              (λ z. block_of (filled h) z d) (suc k)).value j y e < H.prime) (sym h.graph)
               (families_are_below G (parts_sheaf G (filled h)) d (top_vertex G) (λ z. block_of (filled h) z d)
               (over_field on).two (blocks_below h on d within) (suc k) j y e inside.0));
         };
