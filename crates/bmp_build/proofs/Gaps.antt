@@ -1,7 +1,7 @@
 -- Lengths may have gaps: over two levels with the same vertices the families are the same.
 use Rattle.std.proofs.Common.{◌≡◌, ℕ, ◌+◌, ◌<◌, ◌≤◌, sym, ap, subst, ◌∙◌, arith}
 use Rattle.bmp_poly.specs.Exponents.{count}
-use Rattle.bmp_graph.specs.Graph.{Graph, vertex_count, length_at}
+use Rattle.bmp_graph.specs.Graph.{Graph, length_at}
 use Rattle.bmp_linear.specs.declared.blocks.DegreeBlock.{DegreeBlock}
 use Rattle.bmp_sheaf.specs.Sheaves.{SheafData}
 use Rattle.bmp_sections.specs.TupleLists.{TupleList}
