@@ -47,5 +47,6 @@ module _ {j : Job} {interval : Interval} {G : Graph} (prepared : ∥ IsPrepared 
         few = omega arith;
         parts = (refl, (top_lines j.degree, tt));
       } in
-      let checkable = job_is_checkable c interval G (is_well_formed c version (job_is_formed j keeps) lines) prepared keeps in
+      let formed : IsWellFormed c = is_well_formed c version (job_is_formed j keeps) lines in
+      let checkable = job_is_checkable c interval G formed prepared keeps in
       (checkable.on, checkable.degree)

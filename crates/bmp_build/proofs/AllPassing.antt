@@ -27,8 +27,8 @@ chosen_other b P Q is h = subst (λ (t : Bool). Chosen t P Q) (sym is) h
 pub top_lines : (degree : ℕ) → IsTop degree top_part
 top_lines degree = ((omega arith, ((omega arith, omega arith), tt)), refl)
 
-module _ {A : Type 0} {G : Graph} {c : Written} (on : IsCheckableGraph G) (small : c.degree ≤ 6) (v : ℕ) (levels : 2 ≤ v)
-    (are : AreBuilt A G c) where
+module _ {A : Type 0} {G : Graph} {c : Written} (on : IsCheckableGraph G) (small : c.degree ≤ 6) (v : ℕ)
+    (levels : 2 ≤ v) (are : AreBuilt A G c) where
   by_levels : method_of v ≡ Levels
   by_levels = cond-false {A = Method} (eqb v 1) Spaces Levels (ne_eqb v 1 (λ first. omega (arith, first, levels)))
 

@@ -1,4 +1,5 @@
--- What was built at one vertex, of the sheaf that all parts write down: its blocks pass, its sizes hold, and it has lines.
+-- What was built at one vertex, of the sheaf that all parts write down: its blocks pass, its sizes hold, and it has
+-- lines.
 use Rattle.std.proofs.Common.{◌≡◌, ℕ, suc, ◌+◌, ◌-◌, ◌*◌, ◌/◌, ◌%◌, ◌<◌, ◌≤◌, ◌^◌, eqb, List, [], ◌∷◌, ◌++◌, length, get_or, take, map, refl, sym, ap, ap₂, subst, ◌∙◌, inl, inr, arith}
 use Rattle.std.specs.Prelude.{All, count_by}
 use Rattle.std.proofs.Math.ListN.{get_or-map}
@@ -92,7 +93,8 @@ module _ {A : Type 0} {G : Graph} {c : Written} (on : IsCheckableGraph G) (count
   stalks_are =
       let i = top_vertex G - x in
       let here : length c.parts - 1 - x ≡ top_vertex G - x = omega (arith, counted) in
-      ap (λ (k : ℕ). map cert_stalk (take (top_vertex G - x) c.parts) ++ cert_stalk (get_or c.parts k no_part) ∷ []) here
+      ap (λ (k : ℕ). map cert_stalk (take (top_vertex G - x) c.parts) ++ cert_stalk (get_or c.parts k no_part) ∷ [])
+      here
       ∙ sym (map-append cert_stalk (take i c.parts) (get_or c.parts i no_part ∷ []))
       ∙ sym (ap (map cert_stalk) (take_more c.parts i no_part (omega (arith, counted, vertex))))
 

@@ -1,5 +1,5 @@
--- What is built on the way down: what the parts that are there say of each continuation, what a vertex more leaves as it
--- is, and that the end is built.
+-- What is built on the way down: what the parts that are there say of each continuation, what a vertex more leaves as
+-- it is, and that the end is built.
 use Rattle.std.proofs.Common.{◌≡◌, ℕ, suc, ◌+◌, ◌-◌, ◌<◌, ◌≤◌, List, [], ◌∷◌, ◌++◌, length, get_or, take, map, replicate, refl, sym, ap, ap₂, subst, ◌∙◌, inl, inr, arith}
 use Rattle.std.specs.Prelude.{All}
 use Rattle.std.proofs.Math.ListN.{get_or-map}
@@ -21,6 +21,7 @@ use Rattle.bmp_levels.specs.Lists.{first_members, SameList}
 use Rattle.bmp_levels.specs.Runs.{FamilyTable, list_of}
 use Rattle.bmp_levels.specs.Statements.{BlocksAreBelow}
 use Rattle.bmp_levels.proofs.Below.{families_are_below}
+use Rattle.bmp_levels.proofs.WholeFamilies.{IsGap}
 use Rattle.bmp_cert.specs.declared.cert.VertexPart.{VertexPart}
 use Rattle.bmp_cert.specs.Counts.{Written, no_part, part_of}
 use Rattle.bmp_check.specs.Accepted.{IsCheckableGraph}
@@ -33,6 +34,7 @@ use Rattle.bmp_stalk.specs.BuiltParts.{no_family, list_at, HaveMembers, IsBuiltP
 use Rattle.bmp_build.specs.BuiltGraphs.{IsHeldPart, AreBuilt}
 use Rattle.bmp_build.specs.Building.{Continues, IsBuiltIn, HoldsFamily, IsBuiltDown, IsLevelThere, AreCounts}
 use Rattle.bmp_build.proofs.BuiltVertices.{passes_at}
+use Rattle.bmp_build.proofs.Gaps.{family_over_gap}
 
 -- ---- parts and their continuations
 
@@ -147,12 +149,23 @@ module _
     ];
   }
 
+-- the length of the next vertex
+pub next_in :
+    {G : Graph} {D level low k : ℕ} {s : SheafState PrimeField} {parts : List VertexPart} {families : List FamilyTable}
+    → IsBuiltDown G D level low s parts families → k ≡ length_at s.graph (next_vertex s) →
+    k ≡ length_at G (vertex_count G - 1 - length parts)
+next_in {G = G} {k = k} {s = s} {parts = parts} h is =
+    let next : next_vertex s ≡ vertex_count G - 1 - length parts = omega (arith, pushed h, own_vertices h) in
+    subst (λ (H : Graph). k ≡ length_at H (vertex_count G - 1 - length parts)) h.graph
+    (subst (λ y. k ≡ length_at s.graph y) next is)
+
 -- ---- the end
 
-module _ {G : Graph} {D : ℕ} {s : SheafState PrimeField} {parts : List VertexPart} {families : List FamilyTable}
-    (h : IsBuiltDown G D 0 0 s parts families) (some : 0 < vertex_count G) where
+module _
+    {G : Graph} {D level low : ℕ} {s : SheafState PrimeField} {parts : List VertexPart} {families : List FamilyTable}
+    (h : IsBuiltDown G D level low s parts families) (all : vertex_count G ≤ length parts) where
   all_there : length parts ≡ vertex_count G
-  all_there = let there = h.there 0 some (omega arith) in omega (arith, there, h.few)
+  all_there = omega (arith, all, h.few)
 
   pub are_built : AreBuilt PrimeField G (record { degree = D; parts = parts })
   are_built =
@@ -172,23 +185,86 @@ module _ {G : Graph} {D : ℕ} {s : SheafState PrimeField} {parts : List VertexP
 
 -- ---- to the next level
 
+-- with all of its length, the next vertex is there
+pub level_more : {G : Graph} {k : ℕ} (parts : List VertexPart) {more : List VertexPart} → IsLevelThere G k more → length parts < vertex_count G →
+    k ≡ length_at G (vertex_count G - 1 - length parts) → length parts < length more
+level_more {G = G} parts level left next =
+    let there = level.there (vertex_count G - 1 - length parts) (omega (arith, left)) (omega (arith, next)) in
+    omega (arith, there, left)
+
 module _ {G : Graph} {D k : ℕ} {s : SheafState PrimeField} {parts : List VertexPart} {families : List FamilyTable} where
-  -- the families over the longer vertices are there, and no vertex of length k
-  pub level_begun : {level : ℕ} → IsBuiltDown G D level level s parts families → level ≡ suc k →
-      IsBuiltDown s.graph s.degree (suc k) k s parts families
-  level_begun {level = level} h is = own_down (record {
-    graph = h.graph;
-    degree = h.degree;
-    stalks = h.stalks;
-    some = h.some;
-    few = h.few;
-    top = h.top;
-    there = λ y below long. h.there y below (omega (arith, long, is));
-    only = λ y below there. (let long = h.only y below there in omega (arith, long, is));
-    vertices = h.vertices;
-    sized = h.sized;
-    families = subst (λ n. (d : ℕ) → d ≤ D → HoldsFamily G D n parts s d (get_or families d no_family)) is h.families;
-  })
+  -- the next vertex has length k
+  module _ {level : ℕ} (is : IsGraph G) (h : IsBuiltDown G D level level s parts families)
+      (left : length parts < vertex_count G) (next : k ≡ length_at G (vertex_count G - 1 - length parts)) where
+    shorter : k < level
+    shorter = elim (cases_lt k level) [
+      | inl short ↦ short
+      | inr long ↦ absurd
+          (let there = h.there (vertex_count G - 1 - length parts) (omega (arith, left)) (omega (arith, long, next)) in
+          omega (arith, there, left))
+    ]
+
+    under_top : level ≤ length_at G (top_vertex G)
+    under_top = let some = h.some in h.only (top_vertex G) (omega (arith, left)) (omega (arith, left, some))
+
+    pub next_shorter : k < length_at G (top_vertex G)
+    next_shorter = omega (arith, shorter, under_top)
+
+    -- no vertex has a length between k and the level
+    no_other : IsGap G (suc k) level
+    no_other y below long = elim (cases_lt (y + length parts) (vertex_count G)) [
+      | inl missing ↦ absurd
+          (let rises : length_at G y ≤ length_at G (vertex_count G - 1 - length parts) =
+          is.lengths_rise y (vertex_count G - 1 - length parts) (omega (arith, missing)) (omega (arith, left)) in
+          omega (arith, rises, long, next))
+      | inr there ↦ h.only y below there
+    ]
+
+    own_gap : IsGap s.graph (suc k) level
+    own_gap = subst (λ (H : Graph). IsGap H (suc k) level) (sym h.graph) no_other
+
+    longer_family : (d : ℕ) (f : FamilyTable) → HoldsFamily G D level parts s d f → HoldsFamily G D (suc k) parts s d f
+    longer_family d f old = record {
+      holds = record {
+        vertices = old.holds.vertices;
+        has = λ y inside. old.holds.has y (inside.0, own_gap y inside.0 inside.1);
+        only = λ y below there. (let long = old.holds.only y below there in omega (arith, long, shorter));
+        sizes = λ y inside. old.holds.sizes y (inside.0, own_gap y inside.0 inside.1);
+      };
+      same = λ c more.
+          family_over_gap G (parts_sheaf G c) d (top_vertex G) (λ y. block_of c y d) (suc k) level (list_of f)
+          (omega (arith, shorter)) under_top no_other (old.same c more);
+    }
+
+    -- the families over the longer vertices are there, and no vertex of length k
+    pub level_begun : IsBuiltDown s.graph s.degree (suc k) k s parts families
+    level_begun = own_down (record {
+      graph = h.graph;
+      degree = h.degree;
+      stalks = h.stalks;
+      some = h.some;
+      few = h.few;
+      top = h.top;
+      there = λ y below long. h.there y below (no_other y below long);
+      only = λ y below there. (let long = h.only y below there in omega (arith, long, shorter));
+      vertices = h.vertices;
+      sized = h.sized;
+      families = λ d within. longer_family d (get_or families d no_family) (h.families d within);
+    })
+
+  -- the last vertex that is there has the length of the level
+  pub level_last : (fewer : List VertexPart) → IsGraph G → IsBuiltDown G D k k s parts families →
+      length fewer < length parts → k ≡ length_at G (vertex_count G - 1 - length fewer) →
+      length_at G (vertex_count G - length parts) ≡ k
+  level_last fewer is h more next =
+      let few = h.few in
+      let some = h.some in
+      let low : k ≤ length_at G (vertex_count G - length parts) =
+      h.only (vertex_count G - length parts) (omega (arith, few, some)) (omega (arith, few)) in
+      let rises : length_at G (vertex_count G - length parts) ≤ length_at G (vertex_count G - 1 - length fewer) =
+      is.lengths_rise (vertex_count G - length parts) (vertex_count G - 1 - length fewer)
+      (omega (arith, more, few)) (omega (arith, more, few)) in
+      omega (arith, low, rises, next)
 
   -- where the next vertex has another length, all of length k are there
   pub level_there : IsGraph G → IsBuiltDown G D (suc k) k s parts families →
@@ -259,8 +335,8 @@ module _
               subst (λ n. n < s.graph.prime)
               (sym (same.value j y e (omega (arith, is_member, own_count d within, same.count)) inside
               (subst (λ n. e < n) (same.size y inside) coordinate)))
-              (subst (λ (H : Graph). (family G (parts_sheaf G (filled h)) d (top_vertex G) (λ z. block_of (filled h) z d)
-              (suc k)).value j y e < H.prime) (sym h.graph)
+              (subst (λ (H : Graph). (family G (parts_sheaf G (filled h)) d (top_vertex G)
+              (λ z. block_of (filled h) z d) (suc k)).value j y e < H.prime) (sym h.graph)
               (families_are_below G (parts_sheaf G (filled h)) d (top_vertex G) (λ z. block_of (filled h) z d)
               (over_field on).two (blocks_below h on d within) (suc k) j y e inside.0));
         };

@@ -210,7 +210,8 @@ module _
   pub turned_none : IsTurned OldFamily NextFamily (D + 1) 0 families
   turned_none = turned_first h.sized (λ e below. h.families e (omega (arith, below)))
 
-  pub level_down : {items : List FamilyTable} → IsTurned OldFamily NextFamily (D + 1) (D + 1) items → IsBuiltDown G D k k s parts items
+  pub level_down : {items : List FamilyTable} → IsTurned OldFamily NextFamily (D + 1) (D + 1) items →
+      IsBuiltDown G D k k s parts items
   level_down {items = items} turned = record {
     graph = h.graph;
     degree = h.degree;

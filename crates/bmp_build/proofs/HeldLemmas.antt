@@ -25,7 +25,8 @@ holds_more P none xs n h next = record {
 
 pub holds_all : {X : Type 0} (P : X → Type 0) (none : X) (xs : List X) (n : ℕ) → HoldsUpTo P none xs n →
     length xs ≤ n → All P xs
-holds_all P none xs n h past k d below = subst P (get_or_default xs k none d below) (h.each k (omega (arith, below, past)))
+holds_all P none xs n h past k d below =
+    subst P (get_or_default xs k none d below) (h.each k (omega (arith, below, past)))
 
 abbrev pub IsHeldVector : List Entry → Type 0
 IsHeldVector v = IsSparse v × (length v < 2 ^ 32)

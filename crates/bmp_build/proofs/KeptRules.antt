@@ -31,7 +31,8 @@ small_entry (pos n) low high =
     let small : n ≤ 0 = leb-true n 0 (told _ high.le) in
     (le-leb n 9223372036854775807 (omega (arith, small)), le-leb n 1000 (omega (arith, small)))
 small_entry (negsuc n) low high =
-    let small : n ≤ 31 = leb-true n 31 (told _ low.le) in (within_more n 9223372036854775807 small (omega arith), within_more n 999 small (omega arith))
+    let small : n ≤ 31 = leb-true n 31 (told _ low.le) in
+    (within_more n 9223372036854775807 small (omega arith), within_more n 999 small (omega arith))
   where
     within_more : (n most : ℕ) → n ≤ 31 → 31 ≤ most → (leb n most && true) ≡ true
     within_more n most small more = and_from (leb n most) true (le-leb n most (omega (arith, small, more))) refl

@@ -5,6 +5,7 @@ pub mod PassingBlocks
 pub mod BuiltVertices
 pub mod AllPassing
 pub mod HeldLemmas
+pub mod Gaps
 pub mod Downward
 pub mod Extending
 pub mod Beginning

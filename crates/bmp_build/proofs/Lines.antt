@@ -119,7 +119,8 @@ places_chain n few [] low first rises within = tt
 places_chain n few (p ∷ ps) low first rises within =
     let here : p < n = All-head (λ k. k < n) p ps within in (
       (first (omega arith), omega (arith, here, few)),
-      places_chain n few ps (p + 1) (λ some. let next : p < get_or ps 0 0 = rises 0 (omega (arith, some)) in omega arith)
+      places_chain n few ps (p + 1)
+          (λ some. let next : p < get_or ps 0 0 = rises 0 (omega (arith, some)) in omega arith)
           (λ k l. rises (suc k) (omega (arith, l))) (All-tail (λ k. k < n) p ps within),
     )
 

@@ -141,7 +141,8 @@ module _ {G : Graph} {F : SheafData} {x d count : ℕ} {b : DegreeBlock} (fits :
 
   kernel_hold : AllHold (kernel_sizes sizes b.kernel)
   kernel_hold =
-      hold_both (each_at_most b.kernel.basis (coordinates G F x d)) (each_at_most b.kernel.rows (boundary_count G F x d))
+      hold_both (each_at_most b.kernel.basis (coordinates G F x d))
+      (each_at_most b.kernel.rows (boundary_count G F x d))
       (each_holds b.kernel.basis (coordinates G F x d) fits.kernel_fits.basis_fits)
       (each_holds b.kernel.rows (boundary_count G F x d) fits.kernel_fits.rows_fit)
 

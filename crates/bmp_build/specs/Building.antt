@@ -6,6 +6,7 @@
 --                               the parts of the vertices of length at least `level` are there, and of others of length
 --                               at least `low` alone; s is the sheaf that they write down, and the members are the
 --                               families over the level
+--   last_length G parts         the length of the last vertex whose part is there
 --   IsLevelThere G k parts      the parts of all vertices of length at least k are there
 --   AreCounts families counts   the numbers of members
 --   has_block, block_at b x     the block of a vertex whose part is there
@@ -61,6 +62,9 @@ pub record IsBuiltDown (G : Graph) (D level low : ℕ) (s : SheafState PrimeFiel
   pub sized : length members ≡ D + 1
   pub families :
       (d : ℕ) → d ≤ D → HoldsFamily G D level parts s d (slice_index_or members d no_family)
+
+abbrev pub last_length : Graph → List VertexPart → ℕ
+last_length G parts = length_at G (vertex_count G - length parts)
 
 pub record IsLevelThere (G : Graph) (k : ℕ) (parts : List VertexPart) : Type 0 where
   pub there : (y : ℕ) → y < vertex_count G → k ≤ length_at G y → vertex_count G ≤ y + length parts

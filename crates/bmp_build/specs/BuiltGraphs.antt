@@ -1,5 +1,8 @@
 -- Parts of the vertices of a moment graph that were built one by one, from the greatest down. In the order to read:
 --   top_part                    the part of the greatest vertex: one generator, of degree 0
+--   IsHeldList, IsHeldBlock, IsHeldPart
+--                               what holds of vectors, of a block and of a part in memory by their types: fewer than
+--                               2^32 members, and vectors whose places rise and whose numbers are not 0
 --   IsBefore G c x s            the sheaf in memory has the stalks of the vertices above the number x alone
 --   HasFamilies G c x lists     the lists are, by degree, the families over the vertices longer than x
 --   IsBuiltAt G c x             the part of x was built upon such a sheaf, for such lists, and has the shape of a part

@@ -26,6 +26,15 @@ pub(crate) fn counts_of(alloc: Global, families: &[Family]) -> Result<Vec<u32>, 
     Ok(counts)
 }
 
+/// The length of the next vertex.
+pub(crate) fn next_length(sheaf: &Sheaf<PrimeField>) -> u32
+    requires { length sheaf.now.stalks < vertex_count sheaf.now.graph }
+    ensures { result ≡ length_at sheaf.now.graph (next_vertex sheaf.now) }
+{
+    let graph = sheaf.graph();
+    graph.length(graph.vertices() - 1 - sheaf.pushed())
+}
+
 /// Whether there is a next vertex, and it has length `k`.
 fn is_next(sheaf: &Sheaf<PrimeField>, k: u32) -> bool
     ensures { IsTrue result ↔ ((length sheaf.now.stalks < vertex_count sheaf.now.graph)

@@ -7,7 +7,7 @@ ghost use Rattle.bmp_cert.specs.Versions.{IsVersionOf};
 ghost use Rattle.bmp_check.specs.Accepted.{IsCheckableGraph};
 ghost use Rattle.bmp_check.specs.Verdicts.{Passes};
 
-use crate::level::{build_level, counts_of, extend_families};
+use crate::level::{build_level, counts_of, extend_families, next_length};
 use crate::start::{begun, top_families, top_part};
 use bmp_cert::{Accepted, Cert, Parts};
 use bmp_graph::MomentGraph;
@@ -41,9 +41,8 @@ pub fn build_graph(
     let mut families = top_families(alloc, &sheaf)?;
     let mut parts = Parts::new(alloc);
     parts.push(top)?;
-    let most = graph.length(graph.vertices() - 1);
-    'levels: for step in 0..most {
-        let k = most - 1 - step;
+    'levels: while sheaf.pushed() < graph.vertices() {
+        let k = next_length(&sheaf);
         let counts = counts_of(alloc, &families)?;
         build_level(alloc, &mut sheaf, k, &families, &counts, &mut parts)?;
         extend_families(&sheaf, k, &parts, &mut families)?;
