@@ -50,9 +50,6 @@ pub record AgreeAt (G : Graph) (x : ℕ) (F F' : SheafData) : Type 0 where
   pub lifts : (e : ℕ) → e < edge_count G → lower G e ≡ x → F.lift e ≡ F'.lift e
 
 module _ {G : Graph} {x : ℕ} {F F' : SheafData} (agree : AgreeAt G x F F') (d : ℕ) where
-  size : SheafData → ℕ → ℕ
-  size H e = cond (eqb (lower G e) x) (edge_module_count G H d e) 0
-
   sizes_agree : (e : ℕ) → e < edge_count G →
       cond (eqb (lower G e) x) (edge_module_count G F d e) 0 ≡ cond (eqb (lower G e) x) (edge_module_count G F' d e) 0
   sizes_agree e below = elim (cases_eq (lower G e) x) [
@@ -135,9 +132,6 @@ module _ {G : Graph} {x : ℕ} {F F' : SheafData} (agree : AgreeAt G x F F') (d 
 
     generator_agrees : generator_place G F x d r.index ≡ generator_place G F' x d r.index
     generator_agrees = ap (λ o. stalk_place G.rank o d r.index (zeros 6)) agree.own
-
-    value_in : (ℕ → ℕ) → ℕ → List ℕ → Element
-    value_in c y b g m = sum_below (λ j. c j * element_of G.rank b d (list.value j y) g m) list.count
 
     cover_agrees : ComparesCover G F x d list e r → ComparesCover G F' x d list e r
     cover_agrees h = record {

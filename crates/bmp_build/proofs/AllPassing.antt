@@ -38,9 +38,6 @@ module _ {A : Type 0} {G : Graph} {c : Written} (on : IsCheckableGraph G) (small
   blocks : BlocksPass G Levels c
   blocks x d block = block_passes on are.counted block.0 (are.others x block.0) d block.1
 
-  abbrev last : ℕ
-  last = length c.parts - 1
-
   last_part : part_of c (length c.parts - 1) ≡ top_part
   last_part = ap (λ n. part_of c (n - 1)) are.counted ∙ are.top
 

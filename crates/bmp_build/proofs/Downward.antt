@@ -299,9 +299,6 @@ module _
     (on : IsCheckableGraph G) (h : IsBuiltDown G D (suc k) k s parts families)
     (left : length s.stalks < vertex_count s.graph) (here : length_at s.graph (next_vertex s) ≡ k) {counts : List ℕ}
     (counted : AreCounts families counts) where
-  abbrev x : ℕ
-  x = vertex_count G - 1 - length parts
-
   more_left : length parts < vertex_count G
   more_left = omega (arith, left, pushed h, own_vertices h)
 
@@ -344,9 +341,6 @@ module _
 
   module _ {new : SheafState PrimeField} {part : VertexPart} (built : IsBuiltPart s new (list_at families counts) part)
       (held : IsHeldPart part) where
-    abbrev longer : List VertexPart
-    longer = parts ++ part ∷ []
-
     one_more : length (parts ++ part ∷ []) ≡ length parts + 1
     one_more = length_push parts part
 

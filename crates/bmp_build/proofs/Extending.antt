@@ -104,10 +104,8 @@ module _
 
   module _ {new : FamilyTable} (holds : HoldsLevel s k d new)
       (extension : IsExtension s k d (block_at b) f new) where
-    abbrev own_size : ℕ → ℕ
-    own_size = stalk_size s.graph (sheaf_of s) d
-
-    on_graph : SameList (level_vertices G k) (list_of new) (sized own_size (extended G k (block_at b) (list_of f)))
+    on_graph : SameList (level_vertices G k) (list_of new)
+        (sized (stalk_size s.graph (sheaf_of s) d) (extended G k (block_at b) (list_of f)))
     on_graph =
         subst (λ (H : Graph). SameList (level_vertices H k) (list_of new)
         (sized (stalk_size s.graph (sheaf_of s) d) (extended H k (block_at b) (list_of f)))) h.graph extension
