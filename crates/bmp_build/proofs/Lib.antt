@@ -1,0 +1,11 @@
+pub mod AgreeLemmas
+pub mod HoldingSizes
+pub mod Lines
+pub mod PassingBlocks
+pub mod BuiltVertices
+pub mod AllPassing
+pub mod HeldLemmas
+pub mod Downward
+pub mod Extending
+pub mod Beginning
+pub mod Accepting

@@ -1,0 +1,2 @@
+pub mod BuiltGraphs
+pub mod Building

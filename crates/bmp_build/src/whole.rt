@@ -1,0 +1,81 @@
+//! The parts of all vertices of a moment graph, and the certificate of an accepted job, by levels.
+ghost use Rattle.std.specs.Prelude.{◌≡◌, ◌≤◌, ◌-◌, IfOk};
+ghost use Rattle.bmp_cert.specs.CertGrammar.{HavePartLines, IsWellFormed};
+ghost use Rattle.bmp_cert.specs.Counts.{written_by};
+ghost use Rattle.bmp_cert.specs.JobGrammar.{IsWellFormedJob};
+ghost use Rattle.bmp_cert.specs.JobViews.{job_of, graph_of, prepared_of};
+ghost use Rattle.bmp_cert.specs.Versions.{IsVersionOf};
+ghost use Rattle.bmp_check.specs.Accepted.{IsCheckableGraph};
+ghost use Rattle.bmp_check.specs.Verdicts.{Passes};
+
+use crate::level::{build_level, counts_of, extend_families};
+use crate::start::{begun, top_families, top_part};
+use bmp_cert::{Accepted, Cert, Parts};
+use bmp_graph::MomentGraph;
+use std::alloc::{AllocError, Global};
+use std::thread::Threads;
+
+/// Builds the parts of all vertices of a moment graph, up to a degree, with evidence by levels: from the greatest
+/// vertex down, each stalk with its evidence for the families over the longer vertices. Whatever the graph is, the
+/// parts have lines of the version, which is 2 or 3, and no comparison of their verdict fails.
+///
+/// The vertices are built in their order, whatever the number of workers is. Wants memory also where a number of
+/// members or of coordinates would be 2^32 or more.
+pub fn build_graph(
+    rt: &(impl Threads + Sync),
+    alloc: Global,
+    graph: &MomentGraph,
+    degree: u32,
+    version: u8,
+    workers: u32,
+) -> Result<Parts, AllocError>
+    requires on { IsCheckableGraph graph.now }
+    requires degree { degree ≤ 6 }
+    requires version { (2 ≤ version) × (version ≤ 3) }
+    requires workers { (1 ≤ workers) × (workers ≤ 32) }
+    ensures formed { IfOk result (HavePartLines version (graph.now.prime - 1) degree) }
+    ensures passes { IfOk result (λ parts. Passes graph.now version (record { degree = degree; parts = parts })) }
+{
+    let _workers = workers;
+    let top = top_part(alloc)?;
+    let mut sheaf = begun(alloc, graph, degree, &top)?;
+    let mut families = top_families(alloc, &sheaf)?;
+    let mut parts = Parts::new(alloc);
+    parts.push(top)?;
+    let most = graph.length(graph.vertices() - 1);
+    'levels: for step in 0..most {
+        let k = most - 1 - step;
+        let counts = counts_of(alloc, &families)?;
+        build_level(alloc, &mut sheaf, k, &families, &counts, &mut parts)?;
+        extend_families(&sheaf, k, &parts, &mut families)?;
+    }
+    Ok(parts)
+}
+
+/// Builds a certificate by levels of an accepted job, of the version 2 where its lattice is plain, and else of 3. It is
+/// well formed, and no comparison of its verdict fails.
+pub fn build(
+    rt: &(impl Threads + Sync),
+    alloc: Global,
+    a: &Accepted,
+    version: u8,
+    workers: u32,
+) -> Result<Cert, AllocError>
+    requires job { IsWellFormedJob (job_of (prepared_of a.now)) }
+    requires version { IsVersionOf (job_of (prepared_of a.now)).lattice version }
+    requires levels { 2 ≤ version }
+    requires workers { (1 ≤ workers) × (workers ≤ 32) }
+    ensures version { IfOk result (λ c. c.version ≡ version) }
+    ensures job { IfOk result (λ c. c.job ≡ job_of (prepared_of a.now)) }
+    ensures formed { IfOk result IsWellFormed }
+    ensures passes { IfOk result (λ c. Passes (graph_of (prepared_of a.now)) c.version (written_by c)) }
+{
+    let job = a.job().copy()?;
+    let degree = u32::from(job.degree);
+    let vertices = build_graph(rt, alloc, a.graph(), degree, version, workers)?;
+    Ok(Cert {
+        version,
+        job,
+        vertices,
+    })
+}

@@ -1,0 +1,10 @@
+pub mod ChoiceLemmas
+pub mod GrowthLemmas
+pub mod KernelLemmas
+pub mod DraftLemmas
+pub mod JoinedLemmas
+pub mod EdgeRowLemmas
+pub mod AppendedLemmas
+pub mod GrownLemmas
+pub mod UnderLemmas
+pub mod StalkLemmas

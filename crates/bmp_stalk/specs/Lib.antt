@@ -1,0 +1,5 @@
+pub mod Blocks
+pub mod Values
+pub mod Drafts
+pub mod Growth
+pub mod BuiltParts
