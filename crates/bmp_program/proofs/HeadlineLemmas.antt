@@ -12,7 +12,7 @@ use Rattle.bmp_check.specs.Accepted.{IsAccepted}
 use Rattle.bmp_check.proofs.AcceptedLemmas.{accepted_is_checkable}
 use Rattle.bmp_check.proofs.Soundness.{passed_is_braden_macpherson, passed_generators_are_bounded, passed_counts_are_dimensions}
 use Rattle.bmp_report.specs.RankLines.{cert_rank_lines}
-use Rattle.bmp_program.specs.CommandLine.{asked}
+use Rattle.bmp_program.specs.CommandLine.{asked, seed_of}
 use Rattle.bmp_program.specs.Reports.{IsCertOf, InputReport, CommandReport, IsReport}
 use Rattle.bmp_program.specs.Runs.{Report, Holds, Reports, DecidedBy, IsDecided}
 use Rattle.bmp_program.specs.Headline.{Certifies, IsCertified}
@@ -55,8 +55,8 @@ check_report : (words : List Text) (input text : List ℕ) (status : Status) →
     IsReport words input status text → InputReport Check input Done text
 unfolding IsReport
 check_report words input text status asks done report =
-    let by_command : CommandReport (Some Check) input status text =
-    subst (λ (command : Option CommandWord). CommandReport command input status text) asks report in
+    let by_command : CommandReport (Some Check) (seed_of words) input status text =
+    subst (λ (command : Option CommandWord). CommandReport command (seed_of words) input status text) asks report in
     subst (λ (s : Status). InputReport Check input s text) done by_command
 
 -- ---- the report on what the source has left

@@ -11,7 +11,7 @@ use Rattle.bmp_interval.specs.IntervalViews.{system_of, vertices_of}
 use Rattle.bmp_interval.specs.declared.interval.Interval.{Interval}
 use Rattle.bmp_graph.specs.Graph.{Graph}
 use Rattle.bmp_report.specs.GraphText.{graph_text, gkm_text}
-use Rattle.bmp_program.specs.Reports.{fault_status, JobReport, CertReport, GraphReport, GkmReport, KlReport}
+use Rattle.bmp_program.specs.Reports.{fault_status, JobReport, CertReport, GraphReport, GkmReport, KlReport, IsBuiltCert, BuiltReport}
 use Rattle.bmp_program.specs.Runs.{Report}
 use Rattle.bmp_program.specs.declared.status.Status.{Status}
 use Rattle.bmp_program.specs.declared.status.Status.TheVariants.{Done, BadJob, GkmFailed}
@@ -38,6 +38,12 @@ pub cert_fault : (c : Cert) (s : Status) (text : List ℕ) → JobReport c.job s
 cert_fault c s text is =
     subst (λ (t : Status). JobReport c.job t text → CertReport c t text) (sym is.2)
     (by_fault (λ t. JobReport c.job t text → CertReport c t text) is.0 (λ r. r) (λ r. r)) is
+
+pub built_fault : (print : Graph → Cert → List ℕ) (j : Job) (s : Status) (text : List ℕ) → JobReport j s text →
+    BuiltReport print j s text
+built_fault print j s text is =
+    subst (λ (t : Status). JobReport j t text → BuiltReport print j t text) (sym is.2)
+    (by_fault (λ t. JobReport j t text → BuiltReport print j t text) is.0 (λ r. r) (λ r. r)) is
 
 -- where one of the rules of the graph fails, the first rule that fails is one of them
 early_status : (j : Job) (f : JobFault) → (KeepsAll graph_rules j → ⊥) → IsFirstFault j f → fault_status f ≡ BadJob
@@ -83,3 +89,9 @@ pub gkm_done : (j : Job) (g : Graph) (text : List ℕ) (answer : Report) → Kee
     text ≡ gkm_text g → answer ≡ record { status = Done; text = text } → GkmReport j answer.status answer.text
 gkm_done j g text answer kept of text_is is =
     subst (λ (r : Report). GkmReport j r.status r.text) (sym is) (kept, (g, of, text_is))
+
+pub built_done : (print : Graph → Cert → List ℕ) (j : Job) (g : Graph) (c : Cert) (text : List ℕ) (answer : Report) →
+    KeepsAll rules j → IsBuiltCert j g c → text ≡ print g c → answer ≡ record { status = Done; text = text } →
+    BuiltReport print j answer.status answer.text
+built_done print j g c text answer kept built text_is is =
+    subst (λ (r : Report). BuiltReport print j r.status r.text) (sym is) (kept, (g, (c, built, text_is)))

@@ -4,3 +4,5 @@ pub mod StatusLemmas
 pub mod JobAnswerLemmas
 pub mod CheckAnswerLemmas
 pub mod TableLemmas
+pub mod BuiltLemmas
+pub mod WordLemmas

@@ -1,5 +1,5 @@
 -- Words and input have one status at most.
-use Rattle.std.proofs.Common.{◌≡◌, ◌<◌, ◌≤◌, ◌⊎◌, inl, inr, ℕ, List, [], ◌∷◌, Option, Some, None, Ok, Err, refl, sym, subst, ◌∙◌, arith, length}
+use Rattle.std.proofs.Common.{◌≡◌, ◌<◌, ◌≤◌, ◌⊎◌, inl, inr, ℕ, List, [], ◌∷◌, Option, Some, None, Bool, true, false, Ok, Err, refl, sym, subst, ◌∙◌, arith, length}
 use Rattle.bmp_graph.specs.Graph.{Graph}
 use Rattle.bmp_text.specs.declared.fault.TextFault.{TextFault}
 use Rattle.bmp_text.specs.Readers.{whole}
@@ -17,14 +17,18 @@ use Rattle.bmp_cert.specs.CertGrammar.{cert, cert_text, IsWellFormed}
 use Rattle.bmp_cert.specs.JobGraphs.{IsJobGraph}
 use Rattle.bmp_cert.specs.JobRules.{Rule, HasGkmGraph, graph_rules, rules, KeepsAll, IsFirstFault}
 use Rattle.bmp_check.proofs.PassLemmas.{none_fails}
-use Rattle.bmp_cert.specs.Counts.{written_by}
+use Rattle.bmp_cert.specs.Counts.{written_by, generator_count}
+use Rattle.bmp_report.specs.RankLines.{cert_rank_lines}
+use Rattle.bmp_report.specs.SampleJobs.{sample_job}
+use Rattle.bmp_report.specs.SummaryText.{summary_text}
+use Rattle.bmp_text.specs.Printing.{Chosen}
 use Rattle.bmp_check.specs.Verdicts.{Passes, IsFirstRefusal}
 use Rattle.bmp_check.specs.declared.refusal.Refusal.{Refusal}
 use Rattle.bmp_program.proofs.TableLemmas.{TableFits, TablePasses, table_fits, table_passes, fits_or_passes}
-use Rattle.bmp_program.specs.CommandLine.{asked}
-use Rattle.bmp_program.specs.Reports.{input_limit, IsCertOf, IsJobOf, fault_status, CertReport, GraphReport, GkmReport, KlReport, CertTextReport, JobTextReport, TextReport, InputReport, CommandReport, IsReport, HasOneStatus}
+use Rattle.bmp_program.specs.CommandLine.{asked, reads_input, seed_of}
+use Rattle.bmp_program.specs.Reports.{input_limit, IsCertOf, IsJobOf, fault_status, CertReport, GraphReport, GkmReport, KlReport, BuiltReport, BuildReport, RanksReport, SampleReport, CertTextReport, JobTextReport, TextReport, InputReport, CommandReport, IsReport, HasOneStatus}
 use Rattle.bmp_program.specs.declared.words.CommandWord.{CommandWord}
-use Rattle.bmp_program.specs.declared.words.CommandWord.TheVariants.{Check, Graph as GraphCommand, Gkm as GkmCommand, Kl as KlCommand}
+use Rattle.bmp_program.specs.declared.words.CommandWord.TheVariants.{Check, Graph as GraphCommand, Gkm as GkmCommand, Kl as KlCommand, Build, Ranks, Sample}
 use Rattle.bmp_program.specs.declared.status.Status.{Status}
 use Rattle.bmp_program.specs.declared.status.Status.TheVariants.{Done, Refused, BadText, BadJob, GkmFailed, ReadFault, WriteFault, NoMemory, TooLong, TableLimit, Usage}
 
@@ -207,6 +211,28 @@ gkm_case j TooLong text is = absurd is
 gkm_case j TableLimit text is = absurd is
 gkm_case j Usage text is = absurd is
 
+built_case : (print : Graph → Cert → List ℕ) (j : Job) (s : Status) (text : List ℕ) → BuiltReport print j s text →
+    Decides (KeepsAll rules) j s
+unfolding Decides
+built_case print j Done text is = inl (refl, is.0)
+built_case print j BadJob text is = let broken = job_case j BadJob is.0 is.1 is.2 in
+    inr (broken, job_breaks j BadJob broken)
+built_case print j GkmFailed text is = let broken = job_case j GkmFailed is.0 is.1 is.2 in
+    inr (broken, job_breaks j GkmFailed broken)
+built_case print j BadText text is = absurd is
+built_case print j Refused text is = absurd is
+built_case print j ReadFault text is = absurd is
+built_case print j WriteFault text is = absurd is
+built_case print j NoMemory text is = absurd is
+built_case print j TooLong text is = absurd is
+built_case print j TableLimit text is = absurd is
+built_case print j Usage text is = absurd is
+
+one_built : (print : Graph → Cert → List ℕ) (j : Job) (s t : Status) (a b : List ℕ) → BuiltReport print j s a →
+    BuiltReport print j t b → s ≡ t
+one_built print j s t a b p q =
+    one_decided (KeepsAll rules) j s t (built_case print j s a p) (built_case print j t b q)
+
 -- the table of a job that keeps the rules of the graph keeps the limit or passes it
 KlCase : Job → Status → Type 0
 KlCase j s = (JobCase j s × (KeepsAll graph_rules j → ⊥))
@@ -298,6 +324,13 @@ one_text GraphCommand input s t a b p q =
 one_text GkmCommand input s t a b p q =
     one_job_text GkmReport (Decides (KeepsAll rules)) gkm_case (one_decided (KeepsAll rules)) input s t a b p q
 one_text KlCommand input s t a b p q = one_job_text KlReport KlCase kl_case one_kl_case input s t a b p q
+one_text Build input s t a b p q =
+    one_job_text BuildReport (Decides (KeepsAll rules)) (built_case (λ g c. cert_text c)) (one_decided (KeepsAll rules))
+    input s t a b p q
+one_text Ranks input s t a b p q =
+    one_job_text RanksReport (Decides (KeepsAll rules)) (built_case (λ g c. cert_rank_lines c))
+    (one_decided (KeepsAll rules)) input s t a b p q
+one_text Sample input s t a b p q = absurd p
 
 InputCase : CommandWord → List ℕ → Status → List ℕ → Type 0
 InputCase command input s text = ((s ≡ TooLong) × (input_limit < length input))
@@ -326,12 +359,19 @@ one_input_case command input s t a b (inl p) (inr q) = absurd (omega (arith, p.1
 one_input_case command input s t a b (inr p) (inl q) = absurd (omega (arith, q.1, p.0))
 one_input_case command input s t a b (inr p) (inr q) = one_text command input s t a b p.1 q.1
 
-by_command : (command : Option CommandWord) (input : List ℕ) (s t : Status) (a b : List ℕ) →
-    CommandReport command input s a → CommandReport command input t b → s ≡ t
-by_command None input s t a b p q = p.0 ∙ sym q.0
-by_command (Some command) input s t a b p q =
+by_reading : (reads : Bool) (command : CommandWord) (seed : ℕ) (input : List ℕ) (s t : Status) (a b : List ℕ) →
+    Chosen reads (InputReport command input s a) (SampleReport seed s a) →
+    Chosen reads (InputReport command input t b) (SampleReport seed t b) → s ≡ t
+by_reading true command seed input s t a b p q =
     one_input_case command input s t a b (input_case command input s a p) (input_case command input t b q)
+by_reading false command seed input s t a b p q =
+    one_built (λ g c. summary_text seed c.job g (generator_count (written_by c))) (sample_job seed) s t a b p q
+
+by_command : (command : Option CommandWord) (seed : ℕ) (input : List ℕ) (s t : Status) (a b : List ℕ) →
+    CommandReport command seed input s a → CommandReport command seed input t b → s ≡ t
+by_command None seed input s t a b p q = p.0 ∙ sym q.0
+by_command (Some command) seed input s t a b p q = by_reading (reads_input command) command seed input s t a b p q
 
 pub one_status : HasOneStatus
 unfolding IsReport
-one_status words input s t a b p q = by_command (asked words) input s t a b p q
+one_status words input s t a b p q = by_command (asked words) (seed_of words) input s t a b p q

@@ -4,18 +4,22 @@
 --   found_in words      what clap finds in words that it takes
 --   named text          the listed command of this name
 --   takes_seed command  the command may stand with a seed
+--   reads_input command the command reads its input; `sample` reads nothing
 --   command_in rows     the command that the words ask for, None where no listed command may stand so
 --   asked words         the command that the words ask for, None where they are no command of the program
 --   IsWorkers word n    n is the number of workers that the word of that option names
-use Rattle.std.specs.Prelude.{◌≡◌, ◌≤◌, ℕ, Bool, true, false, Option, Some, None, List, [], ◌∷◌, codes, pos, not, ◌&&◌, is_some, option_and_then, if◌then◌else◌}
+--   seed_named word     the number that the word of that option writes, 0 where it isn't given
+--   seed_of words       the seed that the words name
+use Rattle.std.specs.Prelude.{◌≡◌, ◌≤◌, ◌^◌, nat_lt, ℕ, Bool, true, false, Option, Some, None, List, [], ◌∷◌, codes, pos, not, ◌&&◌, is_some, option_and_then, if◌then◌else◌}
 use Rattle.std.specs.Str.{bytes_eq}
 use Rattle.std.specs.Str.Parse.{IsNumeral, digits_value, without_leading_plus}
+use Rattle.clap.specs.ValueTests.{is_numeral}
 use Rattle.clap.specs.Walk.{Rule, Row, Text, first_of, is_empty}
 use Rattle.clap.specs.Simple.{App, new_app, new_rule, with_rule, on_top, matches_of}
 use Rattle.clap.specs.Faults.{fault_of}
 use Rattle.clap.specs.declared.builder.value_parser.ValueParser.TheVariants as parser
 use Rattle.bmp_program.specs.declared.words.CommandWord.{CommandWord}
-use Rattle.bmp_program.specs.declared.words.CommandWord.TheVariants.{Check, Graph, Gkm, Kl}
+use Rattle.bmp_program.specs.declared.words.CommandWord.TheVariants.{Check, Graph, Gkm, Kl, Build, Ranks, Sample}
 
 -- the command word, which is required
 abbrev pub command_rule : Rule
@@ -53,13 +57,28 @@ named text =
     if bytes_eq text (codes "check") then Some Check
     else (if bytes_eq text (codes "graph") then Some Graph
     else (if bytes_eq text (codes "gkm") then Some Gkm
-    else (if bytes_eq text (codes "kl") then Some Kl else None)))
+    else (if bytes_eq text (codes "kl") then Some Kl
+    else (if bytes_eq text (codes "build") then Some Build
+    else (if bytes_eq text (codes "ranks") then Some Ranks
+    else (if bytes_eq text (codes "sample") then Some Sample else None))))))
 
 abbrev pub takes_seed : CommandWord → Bool
 takes_seed Check = false
 takes_seed Graph = false
 takes_seed Gkm = false
 takes_seed Kl = false
+takes_seed Build = false
+takes_seed Ranks = false
+takes_seed Sample = true
+
+abbrev pub reads_input : CommandWord → Bool
+reads_input Check = true
+reads_input Graph = true
+reads_input Gkm = true
+reads_input Kl = true
+reads_input Build = true
+reads_input Ranks = true
+reads_input Sample = false
 
 -- the command, but none where a seed is given and the command takes none
 abbrev pub allowed : Bool → CommandWord → Option CommandWord
@@ -79,3 +98,12 @@ IsWorkers None n = n ≡ 1
 IsWorkers (Some text) n =
     (1 ≤ n) × (n ≤ 32) × (let digits = without_leading_plus text in
     IsNumeral 10 digits → 1 ≤ digits_value 10 digits → digits_value 10 digits ≤ 32 → n ≡ digits_value 10 digits)
+
+abbrev pub seed_named : Option Text → ℕ
+seed_named None = 0
+seed_named (Some text) =
+    let digits = without_leading_plus text in
+    if is_numeral digits && nat_lt (digits_value 10 digits) (2 ^ 32) then digits_value 10 digits else 0
+
+abbrev pub seed_of : List Text → ℕ
+seed_of words = seed_named (first_of (codes "seed") (found_in words))

@@ -11,6 +11,14 @@
 --                               fails, or its ranks
 --   GraphReport, GkmReport, KlReport
 --                               what `graph`, `gkm` and `kl` answer to a job
+--   built_version l             the version of the certificates by levels of jobs with the lattice l
+--   IsBuiltCert j G c           c is such a certificate of the job j, and none of its comparisons fails on the graph G
+--                               of the job
+--   BuiltReport print j status text
+--                               what is answered to a job whose certificate is built: any such certificate will do, and
+--                               of it this is printed
+--   BuildReport, RanksReport    what `build` and `ranks` answer to a job: the text of such a certificate, and its ranks
+--   SampleReport n status text  what `sample` answers: the summary of such a certificate of the job of this number
 --   table_limit                 how large in size the coefficients of a table may be
 --   TableReport roots vertices status text
 --                               what is answered to the vertices of a job: their table, or the first of them that
@@ -19,8 +27,9 @@
 --                               what a command answers to an input within the limit
 --   InputReport command input status text
 --                               what a command answers
---   CommandReport command input status text
---                               the same, and what is answered where there is no command
+--   CommandReport command seed input status text
+--                               the same, with `sample`, which reads nothing, and what is answered where there is no
+--                               command
 --   IsReport words input status text
 --                               what the program answers
 --   HasOneStatus                words and input have one status at most
@@ -28,6 +37,7 @@ use Rattle.std.specs.Prelude.{◌≡◌, ◌<◌, ◌≤◌, ℕ, ℤ, List, Opt
 use Rattle.std.specs.Int.RustNames.{unsigned_abs}
 use Rattle.clap.specs.Walk.{Text}
 use Rattle.bmp_text.specs.declared.fault.TextFault.{TextFault}
+use Rattle.bmp_text.specs.Printing.{Chosen}
 use Rattle.bmp_text.specs.Readers.{whole}
 use Rattle.bmp_cert.specs.declared.job.Job.{Job}
 use Rattle.bmp_cert.specs.declared.cert.Cert.{Cert}
@@ -43,8 +53,10 @@ use Rattle.bmp_kl.specs.Filled.{HasTooBig}
 use Rattle.bmp_graph.specs.Graph.{Graph}
 use Rattle.bmp_cert.specs.CertGrammar.{cert, cert_text, IsWellFormed}
 use Rattle.bmp_cert.specs.JobGrammar.{job, job_text, IsWellFormedJob}
-use Rattle.bmp_cert.specs.Counts.{written_by}
+use Rattle.bmp_cert.specs.Counts.{written_by, generator_count}
 use Rattle.bmp_cert.specs.JobGraphs.{IsJobGraph, IsJobInterval}
+use Rattle.bmp_cert.specs.declared.lattice.Lattice.{Lattice}
+use Rattle.bmp_cert.specs.declared.lattice.Lattice.TheVariants.{Plain, Root, Weight}
 use Rattle.bmp_cert.specs.JobRules.{graph_rules, rules, KeepsAll, IsFirstFault}
 use Rattle.bmp_check.specs.declared.refusal.Refusal.{Refusal}
 use Rattle.bmp_check.specs.Refusals.{refusal_text}
@@ -52,10 +64,12 @@ use Rattle.bmp_check.specs.Verdicts.{Passes, IsFirstRefusal}
 use Rattle.bmp_report.specs.FaultLines.{text_fault_line, job_fault_line}
 use Rattle.bmp_report.specs.GraphText.{graph_text, gkm_text}
 use Rattle.bmp_report.specs.RankLines.{cert_rank_lines}
+use Rattle.bmp_report.specs.SampleJobs.{sample_job}
+use Rattle.bmp_report.specs.SummaryText.{summary_text}
 use Rattle.bmp_report.specs.TableText.{IsKlText, limit_line}
-use Rattle.bmp_program.specs.CommandLine.{asked}
+use Rattle.bmp_program.specs.CommandLine.{asked, reads_input, seed_of}
 use Rattle.bmp_program.specs.declared.words.CommandWord.{CommandWord}
-use Rattle.bmp_program.specs.declared.words.CommandWord.TheVariants.{Check, Graph as GraphCommand, Gkm as GkmCommand, Kl as KlCommand}
+use Rattle.bmp_program.specs.declared.words.CommandWord.TheVariants.{Check, Graph as GraphCommand, Gkm as GkmCommand, Kl as KlCommand, Build, Ranks, Sample}
 use Rattle.bmp_program.specs.declared.status.Status.{Status}
 use Rattle.bmp_program.specs.declared.status.Status.TheVariants.{Done, Refused, BadText, BadJob, GkmFailed, TooLong, TableLimit, Usage}
 
@@ -135,6 +149,38 @@ KlReport j status text =
     KeepsAll graph_rules j × ((vertices : List Elem) × (of : IsJobInterval j vertices) ×
     TableReport of.roots vertices status text)
 
+-- ---- what is built
+
+abbrev pub built_version : Lattice → ℕ
+built_version Plain = 2
+built_version Root = 3
+built_version Weight = 3
+
+pub record IsBuiltCert (j : Job) (G : Graph) (c : Cert) : Type 0 where
+  pub formed : IsWellFormed c
+  pub job : c.job ≡ j
+  pub version : c.version ≡ built_version j.lattice
+  pub graph : IsJobGraph j G
+  pub passes : Passes G c.version (written_by c)
+
+abbrev pub BuiltReport : (Graph → Cert → List ℕ) → Job → Status → List ℕ → Type 0
+BuiltReport print j BadJob text = JobReport j BadJob text
+BuiltReport print j GkmFailed text = JobReport j GkmFailed text
+BuiltReport print j Done text =
+    KeepsAll rules j × ((G : Graph) × ((c : Cert) × IsBuiltCert j G c × (text ≡ print G c)))
+BuiltReport print j _ text = ⊥
+
+abbrev pub BuildReport : Job → Status → List ℕ → Type 0
+BuildReport = BuiltReport (λ G c. cert_text c)
+
+abbrev pub RanksReport : Job → Status → List ℕ → Type 0
+RanksReport = BuiltReport (λ G c. cert_rank_lines c)
+
+abbrev pub SampleReport : ℕ → Status → List ℕ → Type 0
+SampleReport n = BuiltReport (λ G c. summary_text n c.job G (generator_count (written_by c))) (sample_job n)
+
+-- ---- inputs
+
 -- the text of no job, with the first fault in reading order, or the text of one
 abbrev pub JobTextReport : (Job → Status → List ℕ → Type 0) → List ℕ → Status → List ℕ → Type 0
 JobTextReport report input BadText text = (fault : TextFault) × (whole job input ≡ Err fault) ×
@@ -146,17 +192,21 @@ TextReport Check input status text = CertTextReport input status text
 TextReport GraphCommand input status text = JobTextReport GraphReport input status text
 TextReport GkmCommand input status text = JobTextReport GkmReport input status text
 TextReport KlCommand input status text = JobTextReport KlReport input status text
+TextReport Build input status text = JobTextReport BuildReport input status text
+TextReport Ranks input status text = JobTextReport RanksReport input status text
+TextReport Sample input status text = ⊥  -- it reads nothing
 
 unfoldable pub InputReport : CommandWord → List ℕ → Status → List ℕ → Type 0
 InputReport command input TooLong text = (input_limit < length input) × (text ≡ codes "input too long\n")
 InputReport command input status text = (length input ≤ input_limit) × TextReport command input status text
 
-abbrev pub CommandReport : Option CommandWord → List ℕ → Status → List ℕ → Type 0
-CommandReport None input status text = (status ≡ Usage) × (text ≡ codes "usage\n")
-CommandReport (Some command) input status text = InputReport command input status text
+abbrev pub CommandReport : Option CommandWord → ℕ → List ℕ → Status → List ℕ → Type 0
+CommandReport None seed input status text = (status ≡ Usage) × (text ≡ codes "usage\n")
+CommandReport (Some command) seed input status text =
+    Chosen (reads_input command) (InputReport command input status text) (SampleReport seed status text)
 
 unfoldable pub IsReport : List Text → List ℕ → Status → List ℕ → Type 0
-IsReport words input status text = CommandReport (asked words) input status text
+IsReport words input status text = CommandReport (asked words) (seed_of words) input status text
 
 abbrev pub HasOneStatus : Type 0
 HasOneStatus = (words : List Text) (input : List ℕ) (s t : Status) (a b : List ℕ) → IsReport words input s a →

@@ -1,11 +1,13 @@
-//! A command on its input: reads it to its end and answers it.
-ghost use Rattle.std.specs.Prelude.{◌≡◌, ◌≤◌, IfOk, length};
+//! A command on its input: reads it to its end and answers it; and `sample`, which reads nothing.
+ghost use Rattle.std.specs.Prelude.{◌≡◌, ◌≤◌, true, IfOk, length, None};
 ghost use Rattle.bmp_ports.specs.Ports.{Rose, IsAtEnd};
-ghost use Rattle.bmp_program.specs.Reports.{TextReport, InputReport};
+ghost use Rattle.bmp_program.specs.CommandLine.{reads_input};
+ghost use Rattle.bmp_program.specs.Reports.{TextReport, InputReport, SampleReport};
 ghost use Rattle.bmp_program.specs.Runs.{IsDecided, answer_view};
 
 use crate::Status;
 use crate::answer::{Answer, fixed};
+use crate::built_answer::{report_build, report_ranks, report_sample};
 use crate::check::report_check;
 use crate::job_answer::{report_gkm, report_graph};
 use crate::table_answer::report_kl;
@@ -22,6 +24,7 @@ fn report_on(
     input: &[u8],
 ) -> Result<Answer, AllocError>
     requires limit { length input.now ≤ READ_LIMIT }
+    requires reads { reads_input request.command ≡ true }
     requires workers { (1 ≤ request.workers) × (request.workers ≤ 32) }
     ensures { IfOk result (λ a.
         TextReport request.command input.now (answer_view a).status (answer_view a).text) }
@@ -31,6 +34,9 @@ fn report_on(
         CommandWord::Graph => report_graph(alloc, input),
         CommandWord::Gkm => report_gkm(alloc, input),
         CommandWord::Kl => report_kl(alloc, input),
+        CommandWord::Build => report_build(rt, alloc, input, request.workers),
+        CommandWord::Ranks => report_ranks(rt, alloc, input, request.workers),
+        CommandWord::Sample => unreachable!(),
     }
 }
 
@@ -41,7 +47,8 @@ pub(crate) fn answer_to<S: Source>(
     request: Request,
     source: &mut S,
 ) -> Answer
-    requires { (1 ≤ request.workers) × (request.workers ≤ 32) }
+    requires reads { reads_input request.command ≡ true }
+    requires workers { (1 ≤ request.workers) × (request.workers ≤ 32) }
     ensures answer { IsDecided (InputReport request.command) (S.left source.old)
         (Rose (S.faults source.old) (S.faults source.new)) (answer_view result) }
     ensures end { (answer_view result).status ≡ Status.Done → IsAtEnd (S.left source.new) }
@@ -54,5 +61,17 @@ pub(crate) fn answer_to<S: Source>(
         Err(ReadError::ReadFault) => fixed(Status::ReadFault, b"read fault\n"),
         Err(ReadError::TooLong) => fixed(Status::TooLong, b"input too long\n"),
         Err(ReadError::Memory) => fixed(Status::NoMemory, b"no memory\n"),
+    }
+}
+
+/// The answer of `sample`, for the job of the number that the request names.
+#[tactic(auto, using(crate::proofs::ReportLemmas::sample_answered))]
+pub(crate) fn answer_sample(rt: &(impl Threads + Sync), alloc: Global, request: Request) -> Answer
+    requires { (1 ≤ request.workers) × (request.workers ≤ 32) }
+    ensures { IsDecided (λ input. SampleReport request.seed) None ⊥ (answer_view result) }
+{
+    match report_sample(rt, alloc, request.seed, request.workers) {
+        Ok(answer) => answer,
+        Err(_) => fixed(Status::NoMemory, b"no memory\n"),
     }
 }

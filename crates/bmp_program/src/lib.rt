@@ -2,6 +2,7 @@
 #![tactic(auto)]
 
 mod answer;
+mod built_answer;
 mod check;
 mod input;
 mod job_answer;

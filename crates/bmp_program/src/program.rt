@@ -2,7 +2,7 @@
 ghost use Rattle.std.specs.Prelude.{◌≡◌, ◌≢◌, ⊤, Some, None, map, string_bytes};
 ghost use Rattle.bmp_ports.specs.Ports.{Rose, IsAtEnd, Takes};
 ghost use Rattle.bmp_program.specs.CommandLine.{asked};
-ghost use Rattle.bmp_program.specs.declared.words.CommandWord.TheVariants.{Check};
+ghost use Rattle.bmp_program.specs.declared.words.CommandWord.TheVariants.{Check, Sample};
 ghost use Rattle.bmp_program.specs.Headline.{IsCertified};
 ghost use Rattle.bmp_program.specs.Passed.{HasPassed};
 ghost use Rattle.bmp_program.specs.Reports.{IsReport, read_fault_line};
@@ -10,14 +10,14 @@ ghost use Rattle.bmp_program.specs.Runs.{IsDecided, IsReported, WritesReport, Wr
 
 use crate::Status;
 use crate::answer::{Answer, bytes_of, fixed};
-use crate::input::answer_to;
-use crate::words::{WordsError, read_words};
+use crate::input::{answer_sample, answer_to};
+use crate::words::{WordsError, read_words, reads_input};
 use bmp_ports::{Sink, Source, WriteError, write_all};
 use std::alloc::Global;
 use std::thread::Threads;
 
 // What the words and the input are answered with.
-#[tactic(auto, unfolding(crate::specs::Reports::IsReport))]
+#[tactic(auto, using(crate::proofs::ReportLemmas::input_decided, crate::proofs::ReportLemmas::sample_decided, crate::proofs::ReportLemmas::reads_nothing))]
 fn decide<S: Source>(
     rt: &(impl Threads + Sync),
     alloc: Global,
@@ -26,15 +26,21 @@ fn decide<S: Source>(
 ) -> Answer
     ensures answer { IsDecided (IsReport (map string_bytes words.now)) (S.left source.old)
         (Rose (S.faults source.old) (S.faults source.new)) (answer_view result) }
-    ensures end { (answer_view result).status ≡ Status.Done → IsAtEnd (S.left source.new) }
+    ensures end { asked (map string_bytes words.now) ≢ Some Sample → (answer_view result).status ≡ Status.Done →
+        IsAtEnd (S.left source.new) }
     ensures unread { asked (map string_bytes words.now) ≡ None → source.new ≡ source.old }
+    ensures sample { asked (map string_bytes words.now) ≡ Some Sample → source.new ≡ source.old }
 {
     let request = match read_words(alloc, words) {
         Ok(request) => request,
         Err(WordsError::Usage) => return fixed(Status::Usage, b"usage\n"),
         Err(WordsError::Memory) => return fixed(Status::NoMemory, b"no memory\n"),
     };
-    answer_to(rt, alloc, request, source)
+    if reads_input(request.command) {
+        answer_to(rt, alloc, request, source)
+    } else {
+        answer_sample(rt, alloc, request)
+    }
 }
 
 /// Does all that the program does: reads the words, and the input where the command reads it, and writes the text of
@@ -67,9 +73,11 @@ pub fn run<S: Source, K: Sink>(
         (Rose (S.faults source.old) (S.faults source.new))
         (K.taken sink.old) (K.taken sink.new) (λ _. ⊤) }
 
-    // The words alone decide on a usage line; with status 0 all was read.
+    // The words alone decide on a usage line and on a sample; else all was read with status 0.
     ensures unread { asked (map string_bytes words.now) ≡ None → source.new ≡ source.old }
-    ensures end { result ≡ Status.Done → IsAtEnd (S.left source.new) }
+    ensures sample { asked (map string_bytes words.now) ≡ Some Sample → source.new ≡ source.old }
+    ensures end { asked (map string_bytes words.now) ≢ Some Sample → result ≡ Status.Done →
+        IsAtEnd (S.left source.new) }
 
     // When `check` ends with status 0, no comparison of the certificate fails.
     ensures passed { asked (map string_bytes words.now) ≡ Some Check → result ≡ Status.Done →

@@ -3,7 +3,7 @@ ghost use Rattle.std.specs.Prelude.{◌≡◌, ◌≤◌, IfOk, IfSome, map, opt
 ghost use Rattle.clap.specs.Simple.{app_of};
 ghost use Rattle.clap.specs.Matches.{found_of};
 ghost use Rattle.clap.specs.Walk.{rule_of, rows_of, first_of};
-ghost use Rattle.bmp_program.specs.CommandLine.{line_app, refuses, found_in, named, takes_seed, allowed, command_in, asked, IsWorkers, command_rule, workers_rule, seed_rule, bare_app};
+ghost use Rattle.bmp_program.specs.CommandLine.{line_app, refuses, found_in, named, takes_seed, reads_input, allowed, command_in, asked, seed_named, seed_of, IsWorkers, command_rule, workers_rule, seed_rule, bare_app};
 
 use clap::error::ErrorKind;
 use clap::{Arg, ArgMatches, Command, value_parser};
@@ -20,6 +20,12 @@ pub enum CommandWord {
     Gkm,
     /// Prints the Kazhdan-Lusztig table of a job.
     Kl,
+    /// Builds a certificate of a job.
+    Build,
+    /// Builds a certificate of a job, checks it and prints its ranks.
+    Ranks,
+    /// Builds and checks a certificate of a job that a number tells, and prints a summary.
+    Sample,
 }
 
 /// Why the words ask for nothing.
@@ -38,6 +44,8 @@ pub struct Request {
     pub command: CommandWord,
     /// By so many threads, 1 to 32.
     pub workers: u32,
+    /// The number of a sample.
+    pub seed: u32,
 }
 
 fn command_word<'a>(alloc: Global) -> Arg<'a>
@@ -117,16 +125,40 @@ fn named_command(word: &str) -> Option<CommandWord>
         "graph" => Some(CommandWord::Graph),
         "gkm" => Some(CommandWord::Gkm),
         "kl" => Some(CommandWord::Kl),
+        "build" => Some(CommandWord::Build),
+        "ranks" => Some(CommandWord::Ranks),
+        "sample" => Some(CommandWord::Sample),
         _ => None,
     }
 }
 
-// Whether the command may stand with a seed: none of them uses one.
+// Whether the command may stand with a seed.
 fn takes_seed(command: CommandWord) -> bool
     ensures { result ≡ takes_seed command }
 {
     match command {
-        CommandWord::Check | CommandWord::Graph | CommandWord::Gkm | CommandWord::Kl => false,
+        CommandWord::Sample => true,
+        CommandWord::Check
+        | CommandWord::Graph
+        | CommandWord::Gkm
+        | CommandWord::Kl
+        | CommandWord::Build
+        | CommandWord::Ranks => false,
+    }
+}
+
+/// Whether the command reads its input.
+pub(crate) fn reads_input(command: CommandWord) -> bool
+    ensures { result ≡ reads_input command }
+{
+    match command {
+        CommandWord::Sample => false,
+        CommandWord::Check
+        | CommandWord::Graph
+        | CommandWord::Gkm
+        | CommandWord::Kl
+        | CommandWord::Build
+        | CommandWord::Ranks => true,
     }
 }
 
@@ -157,6 +189,19 @@ fn workers_named(word: Option<&str>) -> u32
     }
 }
 
+// The number of a sample that a word names, 0 where there is none.
+fn seed_named(word: Option<&str>) -> u32
+    ensures { result ≡ seed_named (option_map (λ s. s.now) word.entry) }
+{
+    match word {
+        None => 0,
+        Some(text) => match text.parse::<u32>() {
+            Ok(seed) => seed,
+            Err(_) => 0,
+        },
+    }
+}
+
 // What the matches ask for.
 fn requested(matches: &ArgMatches) -> Option<Request>
     ensures command { option_map (λ r. r.command) result ≡ command_in (rows_of (found_of matches.now)) }
@@ -164,11 +209,18 @@ fn requested(matches: &ArgMatches) -> Option<Request>
         IsWorkers (first_of (codes "workers") (rows_of (found_of matches.now))) r.workers) }
     ensures positive { IfSome result (λ r. 1 ≤ r.workers) }
     ensures most { IfSome result (λ r. r.workers ≤ 32) }
+    ensures seed { IfSome result (λ r.
+        r.seed ≡ seed_named (first_of (codes "seed") (rows_of (found_of matches.now)))) }
 {
     let seeded = text_at(matches, "seed").is_some();
     let command = allowed_command(text_at(matches, "COMMAND"), seeded)?;
     let workers = workers_named(text_at(matches, "workers"));
-    Some(Request { command, workers })
+    let seed = seed_named(text_at(matches, "seed"));
+    Some(Request {
+        command,
+        workers,
+        seed,
+    })
 }
 
 /// What the words ask for: the program's name, a listed command and its options.
@@ -182,6 +234,7 @@ pub fn read_words(alloc: Global, words: &[String]) -> Result<Request, WordsError
         IsWorkers (first_of (codes "workers") (found_in (map string_bytes words.now))) r.workers) }
     ensures positive { IfOk result (λ r. 1 ≤ r.workers) }
     ensures most { IfOk result (λ r. r.workers ≤ 32) }
+    ensures seed { IfOk result (λ r. r.seed ≡ seed_of (map string_bytes words.now)) }
 {
     let matches = matched(alloc, words)?;
     requested(&matches).ok_or(WordsError::Usage)

@@ -2,3 +2,5 @@ pub mod RankLemmas
 pub mod FaultLemmas
 pub mod MatrixLemmas
 pub mod TableLemmas
+pub mod SampleLemmas
+pub mod SummaryLemmas

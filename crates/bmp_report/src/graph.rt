@@ -118,8 +118,8 @@ fn push_edges(out: &mut Vec<u8>, graph: &MomentGraph) -> Result<(), AllocError>
     Ok(())
 }
 
-// A line of a keyword and a number.
-fn push_single(out: &mut Vec<u8>, word: &[u8], n: u64) -> Result<(), AllocError>
+/// A line of a keyword and a number.
+pub(crate) fn push_single(out: &mut Vec<u8>, word: &[u8], n: u64) -> Result<(), AllocError>
     ensures { OnOk result (out.new.items ≡ out.old.items ++ single_text word.now n) }
 {
     push_numbered(out, word, n)?;

@@ -1,5 +1,7 @@
 //! The laws of the lines, each the contract of a function without a body.
 ghost use Rattle.bmp_report.specs.RankLines.{RanksHaveLines};
+ghost use Rattle.bmp_report.specs.SampleJobs.{SampleJobsAreFormed};
+ghost use Rattle.bmp_report.specs.SummaryText.{SummaryOfRanks};
 ghost use Rattle.bmp_report.specs.TableText.{KlTextHasAll};
 
 /// The lines of a certificate's ranks are those of its own numbers of generators.
@@ -10,4 +12,14 @@ pub fn ranks_have_lines()
 /// The text of a table has all coefficients that aren't 0: the exponents are from 0 to 36.
 pub fn kl_text_has_all()
     ensures { KlTextHasAll }
+{}
+
+/// Each job of `sample` has a text.
+pub fn sample_jobs_are_formed()
+    ensures { SampleJobsAreFormed }
+{}
+
+/// The ranks of a certificate of a job have the summary of its own numbers of generators.
+pub fn summary_of_ranks()
+    ensures { SummaryOfRanks }
 {}

@@ -1,4 +1,5 @@
-//! The lines that the program prints: ranks, graphs, tables, and the faults of texts and jobs.
+//! The lines that the program prints: ranks, graphs, tables, summaries, and the faults of texts and jobs; and the jobs
+//! of `sample`.
 //!
 //! Each item is one line that ends with a line feed; numbers are canonical, and words are separated by
 //! single spaces. Each call gives exactly the text that `specs/` defines.
@@ -8,9 +9,13 @@ mod faults;
 mod graph;
 pub mod laws;
 mod ranks;
+mod sample;
+mod summary;
 mod table;
 
 pub use faults::{job_line, text_line};
 pub use graph::{gkm_text, graph_text};
 pub use ranks::ranks_text;
+pub use sample::sample_job;
+pub use summary::summary_text;
 pub use table::{kl_text, limit_line};

@@ -40,6 +40,22 @@ pub(crate) fn assert_run(
     Ok(())
 }
 
+/// How a command line ends on an input, and the bytes that it writes, where nothing fails.
+pub(crate) fn written_by(
+    rt: &(impl Threads + Sync),
+    alloc: Global,
+    line: &str,
+    input: &str,
+) -> Result<(Status, Vec<u8>), AllocError> {
+    let words = words_of(alloc, line)?;
+    let bytes = Vec::from_slice(alloc, input.as_bytes())?;
+    let mut source = MemSource::new(bytes, usize::MAX, Vec::new(alloc));
+    let mut sink = MemSink::new(alloc, usize::MAX, Vec::new(alloc));
+    let status = run(rt, alloc, &words, &mut source, &mut sink);
+    let taken = Vec::from_slice(alloc, sink.bytes())?;
+    Ok((status, taken))
+}
+
 /// How `check` ends on an input where source and sink move at most so many bytes a call and one call of each fails, by
 /// number; and what the sink took.
 pub(crate) fn check_by_pieces(

@@ -10,6 +10,8 @@ mod ports;
 #[cfg(test)]
 mod report;
 #[cfg(test)]
+mod samples;
+#[cfg(test)]
 mod text;
 #[cfg(test)]
 mod versions;

@@ -1,0 +1,182 @@
+//! What `build`, `ranks` and `sample` answer: a certificate by levels that was built, its ranks, and a summary.
+ghost use Rattle.std.specs.Prelude.{◌≡◌, ◌≤◌, IfOk};
+ghost use Rattle.bmp_cert.specs.Counts.{written_by, IsRanksOf};
+ghost use Rattle.bmp_cert.specs.JobGraphs.{IsJobGraph};
+ghost use Rattle.bmp_cert.specs.JobGrammar.{IsWellFormedJob};
+ghost use Rattle.bmp_cert.specs.JobViews.{job_of, graph_of, prepared_of};
+ghost use Rattle.bmp_program.specs.Reports.{built_version, IsBuiltCert, BuildReport, RanksReport, SampleReport, JobTextReport};
+ghost use Rattle.bmp_program.specs.Runs.{answer_view};
+
+use crate::Status;
+use crate::answer::{Answer, made};
+use crate::job_answer::fault_answer;
+use bmp_build::build;
+use bmp_cert::{
+    Accepted, Cert, CertError, Job, JobError, Lattice, Ranks, accept_job, print_cert, read_job,
+};
+use bmp_check::{CheckError, check};
+use bmp_report::{ranks_text, sample_job, summary_text, text_line};
+use std::alloc::{AllocError, Global};
+use std::thread::Threads;
+
+// The version of the certificates by levels of jobs with a lattice.
+fn built_version(lattice: Lattice) -> u8
+    ensures { result ≡ built_version lattice }
+{
+    match lattice {
+        Lattice::Plain => 2,
+        Lattice::Root | Lattice::Weight => 3,
+    }
+}
+
+// A certificate of an accepted job.
+fn built(
+    rt: &(impl Threads + Sync),
+    alloc: Global,
+    accepted: &Accepted,
+    workers: u32,
+) -> Result<Cert, AllocError>
+    requires formed { IsWellFormedJob (job_of (prepared_of accepted.now)) }
+    requires graph { IsJobGraph (job_of (prepared_of accepted.now)) (graph_of (prepared_of accepted.now)) }
+    requires workers { (1 ≤ workers) × (workers ≤ 32) }
+    ensures { IfOk result
+        (IsBuiltCert (job_of (prepared_of accepted.now)) (graph_of (prepared_of accepted.now))) }
+{
+    build(
+        rt,
+        alloc,
+        accepted,
+        built_version(accepted.job().lattice),
+        workers,
+    )
+}
+
+// The ranks of a check of a certificate that was built, which no comparison refuses.
+fn checked(
+    rt: &(impl Threads + Sync),
+    alloc: Global,
+    accepted: &Accepted,
+    cert: &Cert,
+    workers: u32,
+) -> Result<Ranks, AllocError>
+    requires built { IsBuiltCert (job_of (prepared_of accepted.now)) (graph_of (prepared_of accepted.now)) cert.now }
+    requires workers { (1 ≤ workers) × (workers ≤ 32) }
+    ensures { IfOk result (IsRanksOf (written_by cert.now)) }
+{
+    match check(rt, alloc, accepted, cert, workers) {
+        Ok(ranks) => Ok(ranks),
+        Err(CheckError::Refused(_)) => unreachable!(),
+        Err(CheckError::Memory) => Err(AllocError),
+    }
+}
+
+// What `build` answers to a job.
+fn build_answer(
+    rt: &(impl Threads + Sync),
+    alloc: Global,
+    j: &Job,
+    workers: u32,
+) -> Result<Answer, AllocError>
+    requires formed { IsWellFormedJob j.now }
+    requires workers { (1 ≤ workers) × (workers ≤ 32) }
+    ensures { IfOk result (λ a. BuildReport j.now (answer_view a).status (answer_view a).text) }
+{
+    match accept_job(alloc, j) {
+        Ok(accepted) => {
+            let cert = built(rt, alloc, &accepted, workers)?;
+            let text = print_cert(alloc, &cert)?;
+            Ok(made(Status::Done, text))
+        }
+        Err(JobError::Fault(fault)) => {
+            let answer = fault_answer(alloc, j, &fault)?;
+            Ok(answer)
+        }
+        Err(JobError::Memory) => Err(AllocError),
+    }
+}
+
+// What `ranks` answers to a job.
+fn ranks_answer(
+    rt: &(impl Threads + Sync),
+    alloc: Global,
+    j: &Job,
+    workers: u32,
+) -> Result<Answer, AllocError>
+    requires formed { IsWellFormedJob j.now }
+    requires workers { (1 ≤ workers) × (workers ≤ 32) }
+    ensures { IfOk result (λ a. RanksReport j.now (answer_view a).status (answer_view a).text) }
+{
+    match accept_job(alloc, j) {
+        Ok(accepted) => {
+            let cert = built(rt, alloc, &accepted, workers)?;
+            let ranks = checked(rt, alloc, &accepted, &cert, workers)?;
+            let text = ranks_text(alloc, &ranks)?;
+            Ok(made(Status::Done, text))
+        }
+        Err(JobError::Fault(fault)) => {
+            let answer = fault_answer(alloc, j, &fault)?;
+            Ok(answer)
+        }
+        Err(JobError::Memory) => Err(AllocError),
+    }
+}
+
+/// What `sample` answers, for the job of a number.
+pub(crate) fn report_sample(
+    rt: &(impl Threads + Sync),
+    alloc: Global,
+    seed: u32,
+    workers: u32,
+) -> Result<Answer, AllocError>
+    requires { (1 ≤ workers) × (workers ≤ 32) }
+    ensures { IfOk result (λ a. SampleReport seed (answer_view a).status (answer_view a).text) }
+{
+    let job = sample_job(alloc, seed)?;
+    match accept_job(alloc, &job) {
+        Ok(accepted) => {
+            let cert = built(rt, alloc, &accepted, workers)?;
+            let ranks = checked(rt, alloc, &accepted, &cert, workers)?;
+            let text = summary_text(alloc, seed, &accepted, &ranks)?;
+            Ok(made(Status::Done, text))
+        }
+        Err(JobError::Fault(fault)) => {
+            let answer = fault_answer(alloc, &job, &fault)?;
+            Ok(answer)
+        }
+        Err(JobError::Memory) => Err(AllocError),
+    }
+}
+
+/// What `build` answers to an input.
+pub(crate) fn report_build(
+    rt: &(impl Threads + Sync),
+    alloc: Global,
+    input: &[u8],
+    workers: u32,
+) -> Result<Answer, AllocError>
+    requires { (1 ≤ workers) × (workers ≤ 32) }
+    ensures { IfOk result (λ a. JobTextReport BuildReport input.now (answer_view a).status (answer_view a).text) }
+{
+    match read_job(alloc, input) {
+        Ok(job) => build_answer(rt, alloc, &job, workers),
+        Err(CertError::Text(fault)) => Ok(made(Status::BadText, text_line(alloc, &fault)?)),
+        Err(CertError::Memory) => Err(AllocError),
+    }
+}
+
+/// What `ranks` answers to an input.
+pub(crate) fn report_ranks(
+    rt: &(impl Threads + Sync),
+    alloc: Global,
+    input: &[u8],
+    workers: u32,
+) -> Result<Answer, AllocError>
+    requires { (1 ≤ workers) × (workers ≤ 32) }
+    ensures { IfOk result (λ a. JobTextReport RanksReport input.now (answer_view a).status (answer_view a).text) }
+{
+    match read_job(alloc, input) {
+        Ok(job) => ranks_answer(rt, alloc, &job, workers),
+        Err(CertError::Text(fault)) => Ok(made(Status::BadText, text_line(alloc, &fault)?)),
+        Err(CertError::Memory) => Err(AllocError),
+    }
+}
