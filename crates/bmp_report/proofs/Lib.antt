@@ -2,3 +2,4 @@ pub mod RankLemmas
 pub mod FaultLemmas
 pub mod MatrixLemmas
 pub mod TableLemmas
+pub mod CompareLemmas

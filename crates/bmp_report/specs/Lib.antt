@@ -2,3 +2,4 @@ pub mod RankLines
 pub mod FaultLines
 pub mod GraphText
 pub mod TableText
+pub mod CompareText

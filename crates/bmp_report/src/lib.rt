@@ -4,12 +4,14 @@
 //! single spaces. Each call gives exactly the text that `specs/` defines.
 #![tactic(auto)]
 
+mod compare;
 mod faults;
 mod graph;
 pub mod laws;
 mod ranks;
 mod table;
 
+pub use compare::compare_text;
 pub use faults::{job_line, text_line};
 pub use graph::{gkm_text, graph_text};
 pub use ranks::ranks_text;

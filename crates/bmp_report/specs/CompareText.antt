@@ -1,0 +1,88 @@
+-- Ranks beside a Kazhdan-Lusztig table. The vertices are numbered from 0 to n - 1, and w is the last; P_{x,w} is the
+-- polynomial of the vertex x, of which h_x has the coefficients.
+--   polynomial_in n level h x d  the coefficient of P_{x,w} at q^d: that of h_x at l(w) - l(x) - 2 d, level the length
+--   Comparison                   for each vertex and each degree a count, and the coefficient beside it
+--   comparison_of r table        the numbers of ranks beside the polynomials of a table
+--   equals n z                   the count n is the integer z
+--   Agrees c x                   at the vertex x each count is the coefficient beside it
+--   agrees c x                   whether it is so
+--   agree_count c n              at how many of the first n vertices it is so
+--   differ_lines c               `differ x d` with count and coefficient, wherever they differ, by vertex and degree
+--   agree_line c                 `agree A of n`: at A of the n vertices the counts are the coefficients
+--   IsCompareText c h q text     the line of self-duality of the table, the lines of what differs, and `agree A of n`
+--   AgreesIsAgreement            `agrees` decides `Agrees`
+use Rattle.std.specs.Prelude.{◌≡◌, ◌↔◌, ℕ, zero, suc, ◌+◌, ◌-◌, ◌*◌, ◌<◌, ◌≤◌, ◌==◌, ◌&&◌, Bool, true, false, if◌then◌else◌, List, [], ◌∷◌, ◌++◌, codes, slice_index, ℤ, pos, negsuc, ◌-ℤ◌}
+use Rattle.std.specs.Fmt.{decimal, signed_decimal}
+use Rattle.bmp_text.specs.Printing.{line_text, range_text}
+use Rattle.bmp_hecke.specs.Laurents.{Laurent}
+use Rattle.bmp_kl.specs.KlTables.{count_of, coefficient_of}
+use Rattle.bmp_kl.specs.declared.table.KlTable.{KlTable}
+use Rattle.bmp_cert.specs.Counts.{RankTable, rank_in}
+use Rattle.bmp_report.specs.TableText.{IsDualLine}
+
+-- ---- what is compared
+
+abbrev pub polynomial_in : ℕ → (ℕ → ℕ) → (ℕ → Laurent) → ℕ → ℕ → ℤ
+polynomial_in n level h x d = h x (pos (level (n - 1)) -ℤ pos (level x) -ℤ pos (2 * d))
+
+abbrev pub polynomial_of : KlTable → ℕ → ℕ → ℤ
+polynomial_of table =
+    polynomial_in (count_of table) (λ x. slice_index table.lengths.items x) (coefficient_of table)
+
+pub record Comparison : Type 0 where
+  pub vertices : ℕ
+  pub degree : ℕ
+  pub count : ℕ → ℕ → ℕ
+  pub coefficient : ℕ → ℕ → ℤ
+
+abbrev pub comparison_of : RankTable → KlTable → Comparison
+comparison_of r table = record {
+  vertices = r.vertices;
+  degree = r.degree;
+  count = rank_in r;
+  coefficient = polynomial_of table;
+}
+
+-- ---- agreement
+
+abbrev pub equals : ℕ → ℤ → Bool
+equals n (pos k) = n == k
+equals n (negsuc k) = false
+
+abbrev pub Agrees : Comparison → ℕ → Type 0
+Agrees c x = (d : ℕ) → d ≤ c.degree → pos (c.count x d) ≡ c.coefficient x d
+
+-- in the degrees below d
+abbrev pub agrees_below : Comparison → ℕ → ℕ → Bool
+agrees_below c x zero = true
+agrees_below c x (suc d) = agrees_below c x d && equals (c.count x d) (c.coefficient x d)
+
+abbrev pub agrees : Comparison → ℕ → Bool
+agrees c x = agrees_below c x (c.degree + 1)
+
+abbrev pub agree_count : Comparison → ℕ → ℕ
+agree_count c zero = 0
+agree_count c (suc x) = agree_count c x + (if agrees c x then 1 else 0)
+
+abbrev pub AgreesIsAgreement : Type 0
+AgreesIsAgreement = (c : Comparison) (x : ℕ) → (agrees c x ≡ true) ↔ Agrees c x
+
+-- ---- the lines
+
+abbrev pub differ_line : ℕ → ℕ → ℕ → ℤ → List ℕ
+differ_line x d n z = if equals n z then []
+    else line_text (codes "differ") (decimal x ∷ decimal d ∷ decimal n ∷ signed_decimal z ∷ [])
+
+abbrev pub vertex_lines : Comparison → ℕ → List ℕ
+vertex_lines c x = range_text (λ d. differ_line x d (c.count x d) (c.coefficient x d)) 0 (c.degree + 1)
+
+abbrev pub differ_lines : Comparison → List ℕ
+differ_lines c = range_text (vertex_lines c) 0 c.vertices
+
+abbrev pub agree_line : Comparison → List ℕ
+agree_line c = codes "agree" ++ ((32 ∷ decimal (agree_count c c.vertices)) ++ (codes " of"
+    ++ ((32 ∷ decimal c.vertices) ++ (10 ∷ []))))
+
+abbrev pub IsCompareText : Comparison → (ℕ → Laurent) → (ℕ → Laurent) → List ℕ → Type 0
+IsCompareText c h q text =
+    (line : List ℕ) × IsDualLine c.vertices h q line × (text ≡ line ++ (differ_lines c ++ agree_line c))
