@@ -3,11 +3,11 @@ use Rattle.std.proofs.Common.{◌≡◌, ℕ, zero, suc, ◌+◌, ◌-◌, ◌*�
 use Rattle.std.specs.Fmt.{decimal, signed_decimal}
 use Rattle.std.proofs.lemmas.Bool.{cases_eq}
 use Rattle.std.proofs.lemmas.Bool.Decides.{nat_tests}
-use Rattle.std.proofs.lemmas.List.{append-nil}
+use Rattle.std.proofs.lemmas.Int.{ints}
 use Rattle.bmp_text.specs.Printing.{line_text, range_text}
 use Rattle.bmp_text.proofs.PrintingLoops.{range_on, range_end, range_same}
 use Rattle.bmp_report.specs.FaultLines.{numbered_text}
-use Rattle.bmp_report.specs.CompareText.{Comparison, equals, Agrees, agrees_below, agrees, agree_count, differ_line, vertex_lines, differ_lines}
+use Rattle.bmp_report.specs.CompareText.{Comparison, equals, Agrees, AgreesIsAgreement, agrees_below, agrees, agree_count, differ_line, vertex_lines, differ_lines}
 
 -- ---- one degree
 
@@ -31,3 +31,41 @@ module _ (c : Comparison) (x d : ℕ) (out all : List ℕ) where
       rw (printed, count, coefficient)
       (range_on (λ e. differ_line x e (c.count x e) (c.coefficient x e)) out all d (c.degree + 1 - d)
       (c.degree + 1 - (d + 1)) (omega (arith, within)) so_far)
+
+-- ---- agreement
+
+equal_or_not : (n : ℕ) (z : ℤ) → (equals n z ≡ true) ↔ (pos n ≡ z)
+equal_or_not n (pos k) = (λ told. ap pos (grind (arith, nat_tests, told)), λ same. grind (arith, nat_tests, same))
+equal_or_not n (negsuc k) = (λ told. grind (arith, told), λ same. grind (arith, ints, same))
+
+both : (a b : Bool) → a && b ≡ true → (a ≡ true) × (b ≡ true)
+both true b told = (refl, told)
+both false b told = absurd (grind (arith, told))
+
+below_or_last : (d n : ℕ) → d < n + 1 → (d < n) ⊎ (d ≡ n)
+below_or_last d n below = grind arith
+
+module _ (c : Comparison) (x : ℕ) where
+  each_below : (n : ℕ) → agrees_below c x n ≡ true → (d : ℕ) → d < n → pos (c.count x d) ≡ c.coefficient x d
+  each_below zero told d below = absurd (omega (arith, below))
+  each_below (suc n) told d below =
+      let parts = both (agrees_below c x n) (equals (c.count x n) (c.coefficient x n)) told in
+      elim (below_or_last d n (omega (arith, below))) [
+        | inl less ↦ each_below n parts.0 d less
+        | inr last ↦ rw last ((equal_or_not (c.count x n) (c.coefficient x n)).0 parts.1)
+      ]
+
+  all_below : (n : ℕ) → ((d : ℕ) → d < n → pos (c.count x d) ≡ c.coefficient x d) → agrees_below c x n ≡ true
+  all_below zero each = refl
+  all_below (suc n) each =
+      rw (
+        all_below n (λ d below. each d (omega (arith, below))),
+        (equal_or_not (c.count x n) (c.coefficient x n)).1 (each n (omega arith)),
+      )
+      refl
+
+pub agrees_is_agreement : AgreesIsAgreement
+agrees_is_agreement c x = (
+  λ told d within. each_below c x (c.degree + 1) told d (omega (arith, within)),
+  λ each. all_below c x (c.degree + 1) (λ d below. each d (omega (arith, below))),
+)

@@ -1,4 +1,5 @@
 //! The laws of the lines, each the contract of a function without a body.
+ghost use Rattle.bmp_report.specs.CompareText.{AgreesIsAgreement};
 ghost use Rattle.bmp_report.specs.RankLines.{RanksHaveLines};
 ghost use Rattle.bmp_report.specs.TableText.{KlTextHasAll};
 
@@ -10,4 +11,9 @@ pub fn ranks_have_lines()
 /// The text of a table has all coefficients that aren't 0: the exponents are from 0 to 36.
 pub fn kl_text_has_all()
     ensures { KlTextHasAll }
+{}
+
+/// A vertex is counted as one that agrees exactly where each of its counts is the coefficient beside it.
+pub fn agrees_is_agreement()
+    ensures { AgreesIsAgreement }
 {}
