@@ -1,13 +1,18 @@
 -- Ranks beside a table: what is printed for a degree, and what agrees.
-use Rattle.std.proofs.Common.{◌≡◌, ℕ, zero, suc, ◌+◌, ◌-◌, ◌*◌, ◌<◌, ◌≤◌, ◌==◌, ◌&&◌, ◌⊎◌, ◌↔◌, Bool, true, false, if◌then◌else◌, refl, sym, ap, ap₂, ◌∙◌, inl, inr, List, [], ◌∷◌, ◌++◌, append_assoc, codes, ℤ, pos, negsuc, arith}
+use Rattle.std.proofs.Common.{◌≡◌, ℕ, zero, suc, ◌+◌, ◌-◌, ◌<◌, ◌≤◌, ◌&&◌, ◌⊎◌, ◌↔◌, Bool, true, false, if◌then◌else◌, refl, sym, subst, ap, ap₂, ◌∙◌, inl, inr, List, [], ◌∷◌, ◌++◌, append_assoc, codes, ℤ, pos, negsuc, arith}
 use Rattle.std.specs.Fmt.{decimal, signed_decimal}
-use Rattle.std.proofs.lemmas.Bool.{cases_eq}
 use Rattle.std.proofs.lemmas.Bool.Decides.{nat_tests}
 use Rattle.std.proofs.lemmas.Int.{ints}
-use Rattle.bmp_text.specs.Printing.{line_text, range_text}
-use Rattle.bmp_text.proofs.PrintingLoops.{range_on, range_end, range_same}
+use Rattle.bmp_text.specs.Printing.{range_text}
+use Rattle.bmp_text.proofs.PrintingLoops.{range_on, range_same}
 use Rattle.bmp_report.specs.FaultLines.{numbered_text}
-use Rattle.bmp_report.specs.CompareText.{Comparison, equals, Agrees, AgreesIsAgreement, agrees_below, agrees, agree_count, differ_line, vertex_lines, differ_lines}
+use Rattle.bmp_report.specs.TableText.{IsDualLine}
+use Rattle.bmp_report.specs.CompareText.{Comparison, level_in, polynomial_in, comparison_of, cert_comparison, equals, AgreesIsAgreement, agrees_below, agrees, agree_count, differ_line, vertex_lines, differ_lines, agree_line, IsCompareText, RanksHaveComparison}
+use Rattle.bmp_hecke.specs.Laurents.{Laurent}
+use Rattle.bmp_kl.specs.KlTables.{count_of, sum_of, coefficient_of}
+use Rattle.bmp_kl.specs.declared.table.KlTable.{KlTable}
+use Rattle.bmp_cert.specs.declared.cert.Cert.{Cert}
+use Rattle.bmp_cert.specs.Counts.{RankTable, written_by, IsRanksOf}
 
 -- ---- one degree
 
@@ -69,3 +74,72 @@ agrees_is_agreement c x = (
   λ told d within. each_below c x (c.degree + 1) told d (omega (arith, within)),
   λ each. all_below c x (c.degree + 1) (λ d below. each d (omega (arith, below))),
 )
+
+-- ---- what the lines depend on
+
+record IsSameComparison (a b : Comparison) : Type 0 where
+  vertices : a.vertices ≡ b.vertices
+  degree : a.degree ≡ b.degree
+  counts : (x d : ℕ) → x < b.vertices → d ≤ b.degree → a.count x d ≡ b.count x d
+  coefficients : (x d : ℕ) → a.coefficient x d ≡ b.coefficient x d
+
+module _ {a b : Comparison} (same : IsSameComparison a b) where
+  line_same : (x d : ℕ) → x < b.vertices → d ≤ b.degree →
+      differ_line x d (a.count x d) (a.coefficient x d) ≡ differ_line x d (b.count x d) (b.coefficient x d)
+  line_same x d vertex degree = ap₂ (differ_line x d) (same.counts x d vertex degree) (same.coefficients x d)
+
+  vertex_same : (x : ℕ) → x < b.vertices → vertex_lines a x ≡ vertex_lines b x
+  vertex_same x vertex =
+      ap (λ (n : ℕ). range_text (λ d. differ_line x d (a.count x d) (a.coefficient x d)) 0 (n + 1)) same.degree
+      ∙ range_same (λ d. differ_line x d (a.count x d) (a.coefficient x d))
+      (λ d. differ_line x d (b.count x d) (b.coefficient x d)) 0 (b.degree + 1)
+      (λ d low high. line_same x d vertex (omega (arith, high)))
+
+  differ_same : differ_lines a ≡ differ_lines b
+  differ_same =
+      ap (range_text (vertex_lines a) 0) same.vertices
+      ∙ range_same (vertex_lines a) (vertex_lines b) 0 b.vertices (λ x low high. vertex_same x (omega (arith, high)))
+
+  below_same : (x n : ℕ) → x < b.vertices → n ≤ b.degree + 1 → agrees_below a x n ≡ agrees_below b x n
+  below_same x zero vertex few = refl
+  below_same x (suc n) vertex few =
+      ap₂ ◌&&◌ (below_same x n vertex (omega (arith, few)))
+      (ap₂ equals (same.counts x n vertex (omega (arith, few))) (same.coefficients x n))
+
+  agrees_same : (x : ℕ) → x < b.vertices → agrees a x ≡ agrees b x
+  agrees_same x vertex =
+      ap (λ (n : ℕ). agrees_below a x (n + 1)) same.degree ∙ below_same x (b.degree + 1) vertex (omega arith)
+
+  number_same : (n : ℕ) → n ≤ b.vertices → agree_count a n ≡ agree_count b n
+  number_same zero few = refl
+  number_same (suc n) few =
+      ap₂ (λ (k : ℕ) (c : Bool). k + (if c then 1 else 0)) (number_same n (omega (arith, few)))
+      (agrees_same n (omega (arith, few)))
+
+  agree_same : agree_line a ≡ agree_line b
+  agree_same =
+      ap₂ agreement (ap (agree_count a) same.vertices ∙ number_same b.vertices (omega arith)) same.vertices
+    where
+      agreement : ℕ → ℕ → List ℕ
+      agreement k n = codes "agree" ++ ((32 ∷ decimal k) ++ (codes " of" ++ ((32 ∷ decimal n) ++ (10 ∷ []))))
+
+  text_same : (h q : ℕ → Laurent) (text : List ℕ) → IsCompareText a h q text → IsCompareText b h q text
+  text_same h q text (line, dual, is) = (
+    line,
+    subst (λ (n : ℕ). IsDualLine n h q line) same.vertices dual,
+    is ∙ ap₂ (λ (ls : List ℕ) (l : List ℕ). line ++ (ls ++ l)) differ_same agree_same,
+  )
+
+ranks_same : (c : Cert) (r : RankTable) (table : KlTable) → IsRanksOf (written_by c) r → r.vertices ≡ count_of table →
+    IsSameComparison (comparison_of r table) (cert_comparison c table.lengths.items (coefficient_of table))
+ranks_same c r table ranks many = record {
+  vertices = ranks.vertices;
+  degree = ranks.degree;
+  counts = ranks.numbers;
+  coefficients = λ x d. ap (λ (n : ℕ). polynomial_in n (level_in table.lengths.items) (coefficient_of table) x d)
+      (sym many ∙ ranks.vertices);
+}
+
+pub ranks_comparison : RanksHaveComparison
+ranks_comparison c r table ranks many text is =
+    text_same (ranks_same c r table ranks many) (coefficient_of table) (sum_of table) text is

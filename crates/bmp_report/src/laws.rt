@@ -1,5 +1,5 @@
 //! The laws of the lines, each the contract of a function without a body.
-ghost use Rattle.bmp_report.specs.CompareText.{AgreesIsAgreement};
+ghost use Rattle.bmp_report.specs.CompareText.{AgreesIsAgreement, RanksHaveComparison};
 ghost use Rattle.bmp_report.specs.RankLines.{RanksHaveLines};
 ghost use Rattle.bmp_report.specs.TableText.{KlTextHasAll};
 
@@ -16,4 +16,9 @@ pub fn kl_text_has_all()
 /// A vertex is counted as one that agrees exactly where each of its counts is the coefficient beside it.
 pub fn agrees_is_agreement()
     ensures { AgreesIsAgreement }
+{}
+
+/// The ranks of a certificate are compared with a table as its own numbers of generators.
+pub fn ranks_have_comparison()
+    ensures { RanksHaveComparison }
 {}
