@@ -5,14 +5,14 @@ use Rattle.std.proofs.lemmas.Bool.Decides.{nat_tests}
 use Rattle.std.proofs.lemmas.Int.{ints}
 use Rattle.bmp_text.specs.Printing.{range_text}
 use Rattle.bmp_text.proofs.PrintingLoops.{range_on, range_same}
-use Rattle.bmp_report.specs.FaultLines.{numbered_text}
-use Rattle.bmp_report.specs.TableText.{IsDualLine}
-use Rattle.bmp_report.specs.CompareText.{Comparison, level_in, polynomial_in, comparison_of, cert_comparison, equals, AgreesIsAgreement, agrees_below, agrees, agree_count, differ_line, vertex_lines, differ_lines, agree_line, IsCompareText, RanksHaveComparison}
 use Rattle.bmp_hecke.specs.Laurents.{Laurent}
 use Rattle.bmp_kl.specs.KlTables.{count_of, sum_of, coefficient_of}
 use Rattle.bmp_kl.specs.declared.table.KlTable.{KlTable}
 use Rattle.bmp_cert.specs.declared.cert.Cert.{Cert}
 use Rattle.bmp_cert.specs.Counts.{RankTable, written_by, IsRanksOf}
+use Rattle.bmp_report.specs.FaultLines.{numbered_text}
+use Rattle.bmp_report.specs.TableText.{IsDualLine}
+use Rattle.bmp_report.specs.CompareText.{Comparison, level_in, polynomial_in, comparison_of, cert_comparison, equals, AgreesIsAgreement, agrees_below, agrees, agree_count, differ_line, vertex_lines, differ_lines, agree_line, IsCompareText, RanksHaveComparison}
 
 -- ---- one degree
 
@@ -25,13 +25,15 @@ pub difference_printed : (out : List ℕ) (x d n : ℕ) (z : ℤ) {a b m : ℕ} 
     ++ (32 ∷ [])) ++ signed_decimal y) ++ (10 ∷ []) ≡ out ++ differ_line x d n z
 difference_printed out x d n z off vertex degree count coefficient =
     rw (off, vertex, degree, count, coefficient)
-    (joined out (codes "differ") (32 ∷ decimal x) (32 ∷ decimal d) (32 ∷ decimal n) (32 ∷ []) (signed_decimal z) (10 ∷ []))
+    (joined out (codes "differ") (32 ∷ decimal x) (32 ∷ decimal d) (32 ∷ decimal n) (32 ∷ []) (signed_decimal z)
+    (10 ∷ []))
 
 module _ (c : Comparison) (x d : ℕ) (out all : List ℕ) where
   pub lines_on : {new : List ℕ} {n : ℕ} {z : ℤ} → d ≤ c.degree → n ≡ c.count x d → z ≡ c.coefficient x d
       → new ≡ out ++ differ_line x d n z
       → out ++ range_text (λ e. differ_line x e (c.count x e) (c.coefficient x e)) d (c.degree + 1 - d) ≡ all
-      → new ++ range_text (λ e. differ_line x e (c.count x e) (c.coefficient x e)) (d + 1) (c.degree + 1 - (d + 1)) ≡ all
+      → new ++ range_text (λ e. differ_line x e (c.count x e) (c.coefficient x e)) (d + 1) (c.degree + 1 - (d + 1))
+      ≡ all
   lines_on within count coefficient printed so_far =
       rw (printed, count, coefficient)
       (range_on (λ e. differ_line x e (c.count x e) (c.coefficient x e)) out all d (c.degree + 1 - d)

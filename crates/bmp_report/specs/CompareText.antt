@@ -105,4 +105,5 @@ abbrev pub RanksHaveComparison : Type 0
 RanksHaveComparison = (c : Cert) (r : RankTable) (table : KlTable) → IsRanksOf (written_by c) r
     → r.vertices ≡ count_of table → (text : List ℕ)
     → IsCompareText (comparison_of r table) (coefficient_of table) (sum_of table) text
-    → IsCompareText (cert_comparison c table.lengths.items (coefficient_of table)) (coefficient_of table) (sum_of table) text
+    → IsCompareText (cert_comparison c table.lengths.items (coefficient_of table)) (coefficient_of table)
+    (sum_of table) text

@@ -18,6 +18,7 @@ returns c =
       c.in_ok-push_numbered.ensures,
     )
     (difference_printed c.args.out.now.items c.args.x c.args.d c.args.count c.args.coefficient
-    (ap (equals c.args.count) (sym (to_z-of_z w64 c.args.coefficient fits)) ∙ (sym c.equals.ensures ∙ c.if-equals.false)) c.from.ensures
+    (ap (equals c.args.count) (sym (to_z-of_z w64 c.args.coefficient fits))
+    ∙ (sym c.equals.ensures ∙ c.if-equals.false)) c.from.ensures
     c.from-2.ensures c.from-3.ensures
     (to_z-of_z w128 c.from-4.result wide ∙ (c.from-4.ensures ∙ to_z-of_z w64 c.args.coefficient fits)))

@@ -6,5 +6,6 @@ use Rattle.bmp_report.proofs.compare.push_vertex.Given as goal
 
 abbrev pub invariant-degrees : goal.invariant-degrees
 invariant-degrees l =
-    l.out.items ++ range_text (λ d. differ_line l.x d (rank_in l.r l.x d) (polynomial_of l.table l.x d)) l.d (l.r.degree + 1 - l.d)
+    l.out.items ++ range_text (λ d. differ_line l.x d (rank_in l.r l.x d) (polynomial_of l.table l.x d)) l.d
+    (l.r.degree + 1 - l.d)
     ≡ l.initial.out.items ++ vertex_lines (comparison_of l.r l.table) l.x
