@@ -4,3 +4,4 @@ pub mod MatrixLemmas
 pub mod TableLemmas
 pub mod SampleLemmas
 pub mod SummaryLemmas
+pub mod CompareLemmas

@@ -5,3 +5,4 @@ pub mod TableText
 pub mod SampleJobs
 pub mod SampleViews
 pub mod SummaryText
+pub mod CompareText

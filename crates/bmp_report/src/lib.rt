@@ -5,6 +5,7 @@
 //! single spaces. Each call gives exactly the text that `specs/` defines.
 #![tactic(auto)]
 
+mod compare;
 mod faults;
 mod graph;
 pub mod laws;
@@ -13,6 +14,7 @@ mod sample;
 mod summary;
 mod table;
 
+pub use compare::compare_text;
 pub use faults::{job_line, text_line};
 pub use graph::{gkm_text, graph_text};
 pub use ranks::ranks_text;

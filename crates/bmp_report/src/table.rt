@@ -87,8 +87,8 @@ fn push_not_dual(out: &mut Vec<u8>, fault: &NotDual) -> Result<(), AllocError>
     Ok(())
 }
 
-// Whether the table is self-dual.
-fn push_duality(out: &mut Vec<u8>, table: &KlTable) -> Result<(), AllocError>
+/// Whether the table is self-dual: the line of it.
+pub(crate) fn push_duality(out: &mut Vec<u8>, table: &KlTable) -> Result<(), AllocError>
     ensures { OnOk result ((line : List ℕ) × IsDualLine (count_of table.now) (coefficient_of table.now)
         (sum_of table.now) line × (out.new.items ≡ out.old.items ++ line)) }
 {

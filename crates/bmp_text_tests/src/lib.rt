@@ -4,6 +4,8 @@
 #[cfg(test)]
 mod cert;
 #[cfg(test)]
+mod compare;
+#[cfg(test)]
 mod jobs;
 #[cfg(test)]
 mod ports;
