@@ -5,13 +5,16 @@ program judges as it stands; what `check` says with status 0 is said of the job 
 
     cartan_matrix, longest_word, reduced_word, is_reduced    groups by type, Bourbaki's numbering
     job_text, job_of                                         job texts
-    check, graph, gkm                                        the program run on a text; plain dictionaries
-    read_ranks, read_graph, read_fault                       what it prints, as plain dictionaries
+    check, build, ranks, graph, gkm, kl                      the program run on a text; plain dictionaries
+    read_ranks, read_graph, read_kl, read_fault              what it prints, as plain dictionaries
+    polynomials, differing                                   a table's polynomials, and where ranks differ from them
+    elements, tabulate                                       all elements of a type, and their ranks in a file
     draw                                                     a moment graph as SVG
 
 Letters, simple roots and variables count from 1, vertices and edges from 0, as in the program's texts.
 """
 
+import json
 import os
 import shutil
 import subprocess
@@ -19,9 +22,9 @@ import sys
 from pathlib import Path
 
 __all__ = [
-    "cartan_matrix", "longest_word", "reduced_word", "is_reduced", "element", "right_descents",
-    "job_text", "job_of", "check", "graph", "gkm", "run", "find_program",
-    "read_ranks", "read_graph", "read_fault", "draw",
+    "cartan_matrix", "longest_word", "reduced_word", "is_reduced", "element", "elements", "right_descents",
+    "job_text", "job_of", "check", "build", "ranks", "graph", "gkm", "kl", "run", "find_program",
+    "read_ranks", "read_graph", "read_kl", "read_fault", "polynomials", "differing", "tabulate", "draw",
 ]  # fmt: skip
 
 
@@ -109,6 +112,23 @@ def longest_word(cartan):
     return word
 
 
+def elements(cartan):
+    """A reduced word of each element of the group, shorter ones first. The group has to be finite."""
+    level, letters = {_key(element(cartan, [])): []}, range(1, len(cartan) + 1)
+    while level:
+        yield from level.values()
+        longer = {}
+        for key, word in level.items():
+            matrix = [list(row) for row in key]
+            for letter in sorted(set(letters) - set(right_descents(matrix))):
+                longer.setdefault(_key(_times_simple(cartan, matrix, letter)), [*word, letter])
+        level = longer
+
+
+def _key(matrix):
+    return tuple(map(tuple, matrix))
+
+
 # ---- job texts
 
 
@@ -151,7 +171,7 @@ def find_program():
 
 STATUS_NAMES = {
     0: "done", 1: "refused", 2: "bad text", 3: "bad job", 4: "GKM failed", 5: "read fault",
-    6: "write fault", 7: "no memory", 8: "too long", 64: "usage",
+    6: "write fault", 7: "no memory", 8: "too long", 9: "table limit", 64: "usage",
 }  # fmt: skip
 
 
@@ -171,6 +191,22 @@ def _answer(result, read):
 def check(text, program=None):
     """The check of a certificate text. With status 0 also `ranks`: for each vertex the counts of degree 0 to D."""
     return _answer(run("check", text, program), read_ranks)
+
+
+def build(text, program=None):
+    """A certificate of a job text, under `text` where the status is 0. Nothing is said of it until it is checked."""
+    return _answer(run("build", text, program), lambda cert: {})
+
+
+def ranks(text, program=None):
+    """The counts of a job text, from a certificate that the program builds and checks; as `check` gives them."""
+    return _answer(run("ranks", text, program), read_ranks)
+
+
+def kl(text, program=None):
+    """The Kazhdan-Lusztig table of a job text. With status 0 also `table`, for each vertex x the coefficients of h_x
+    by exponent, and `self_dual`."""
+    return _answer(run("kl", text, program), read_kl)
 
 
 def graph(text, program=None):
@@ -206,6 +242,16 @@ def read_ranks(text):
     return {"ranks": [_numbers(line)[1:] for line in text.splitlines()]}
 
 
+def read_kl(text):
+    """The text of `kl`: for each vertex a dictionary from exponents to coefficients, and whether it is self-dual."""
+    *lines, last = text.splitlines()
+    pairs = [[word.split(":") for word in line.split(" ")[2:]] for line in lines]
+    return {
+        "table": [{int(exponent): int(number) for exponent, number in words} for words in pairs],
+        "self_dual": last == "self-dual yes",
+    }
+
+
 def read_graph(text):
     """The text of `graph`."""
     vertices, edges = [], []
@@ -234,6 +280,65 @@ def read_fault(text):
     for name, word in zip(words[start::2], words[start + 1 :: 2]):
         fault["at_line" if name == "line" else name] = int(word) if word.isdigit() else word
     return fault
+
+
+# ---- comparing
+
+
+def polynomials(table, graph):
+    """For each vertex x the coefficients of P_{x,w} from degree 0 on, of a table as `kl` gives it, with the graph."""
+    lengths = [vertex["length"] for vertex in graph["vertices"]]
+    answer = []
+    for length, terms in zip(lengths, table):
+        gap = lengths[-1] - length
+        numbers = [terms.get(gap - 2 * d, 0) for d in range(gap // 2 + 1)]
+        while numbers[-1:] == [0]:
+            numbers.pop()
+        answer.append(numbers)
+    return answer
+
+
+def differing(ranks, polynomials):
+    """The vertices at which some count isn't the coefficient in its degree. It says nothing of degrees above the
+    counts."""
+
+    def coefficients(numbers, counts):
+        return [numbers[d] if d < len(numbers) else 0 for d in range(len(counts))]
+
+    pairs = zip(ranks, polynomials)
+    return [x for x, (counts, numbers) in enumerate(pairs) if counts != coefficients(numbers, counts)]
+
+
+# ---- tables of all elements
+
+
+def tabulate(letter, rank, prime, degree, path, lattice=None, program=None, progress=None):
+    """Appends one line of JSON to a file for each element w of a type that isn't there yet: its `word`, the status
+    and, where that is 0, the `ranks` of its job and the vertices `differing` from its Kazhdan-Lusztig polynomials.
+
+    A run that was cut off goes on where it ended; a last line without an end is taken away. Words are those of
+    `elements`. Progress goes to standard error, or to the stream that is given.
+    """
+    cartan, path = cartan_matrix(letter, rank), Path(path)
+    text = path.read_text("ascii") if path.exists() else ""
+    whole = text[: text.rfind("\n") + 1]
+    if whole != text:
+        path.write_text(whole, "ascii")
+    there = {tuple(json.loads(line)["word"]) for line in whole.splitlines()}
+    words = [word for word in elements(cartan) if tuple(word) not in there]
+    with path.open("a", encoding="ascii") as file:
+        for i, word in enumerate(words):
+            job = job_text(cartan, prime, word, degree, lattice)
+            print(f"{i + 1} of {len(words)}: {' '.join(map(str, word))}", file=progress or sys.stderr)
+            print(json.dumps({"word": word, **_compared(job, program)}), file=file, flush=True)
+
+
+def _compared(job, program):
+    answer = ranks(job, program)
+    if answer["status"] != 0:
+        return {"status": answer["status"], "line": answer["line"]}
+    of = polynomials(kl(job, program)["table"], graph(job, program))
+    return {"status": 0, "ranks": answer["ranks"], "differing": differing(answer["ranks"], of)}
 
 
 # ---- pictures
@@ -371,17 +476,29 @@ def draw(graph, ranks=None, marked=(), edge_texts=None):
 
 
 def main(words):
-    """python3 -m bmp JOB [CERTIFICATE] > PICTURE: the moment graph of a job, with the ranks of a certificate of it."""
-    if len(words) not in (1, 2):
+    """python3 -m bmp JOB [CERTIFICATE] > PICTURE       the moment graph of a job; with the ranks of a certificate of it
+    python3 -m bmp table TYPE PRIME DEGREE FILE      the ranks of all elements of a type, such as A3, in a file
+
+    In a picture with ranks, the vertices are marked at which they differ from the Kazhdan-Lusztig coefficients."""
+    if words[:1] == ["table"] and len(words) == 5:
+        tabulate(words[1][0], int(words[1][1:]), int(words[2]), int(words[3]), words[4])
+        return 0
+    if len(words) not in (1, 2) or words[0] == "table":
         print(main.__doc__, file=sys.stderr)
         return 64
-    answers = [graph(Path(words[0]).read_text("ascii"))]
-    answers += [check(Path(word).read_text("ascii")) for word in words[1:]]
+    job = Path(words[0]).read_text("ascii")
+    answers = [graph(job)]
+    answers += [answer for word in words[1:] for answer in (check(Path(word).read_text("ascii")), kl(job))]
     for answer in answers:
         if answer["status"] != 0:
             print(answer["line"], file=sys.stderr)
             return answer["status"]
-    print(draw(answers[0], *(answer["ranks"] for answer in answers[1:])), end="")
+    if len(answers) == 1:
+        print(draw(answers[0]), end="")
+        return 0
+    of, counts, table = answers
+    marked = differing(counts["ranks"], polynomials(table["table"], of))
+    print(draw(of, counts["ranks"], marked), end="")
     return 0
 
 

@@ -1,6 +1,9 @@
 """Tests of the module: python3 -m unittest, in this folder. Those that run the program skip where it isn't built."""
 
+import io
+import json
 import re
+import tempfile
 import unittest
 import xml.etree.ElementTree as tree
 from pathlib import Path
@@ -70,6 +73,14 @@ class Groups(unittest.TestCase):
             self.assertTrue(bmp.is_reduced(cartan, word), name)
             self.assertEqual(len(bmp.right_descents(bmp.element(cartan, word))), len(cartan), name)
 
+    def test_elements(self):
+        for name, count in [("A1", 2), ("A3", 24), ("B3", 48), ("G2", 12), ("D4", 192)]:
+            cartan = bmp.cartan_matrix(*type_of(name))
+            words = list(bmp.elements(cartan))
+            self.assertEqual(len({str(bmp.element(cartan, word)) for word in words}), count, name)
+            self.assertEqual((len(words), len(words[-1])), (count, LENGTHS[name]), name)
+            self.assertTrue(all(bmp.is_reduced(cartan, word) for word in words), name)
+
     def test_words(self):
         cartan = bmp.cartan_matrix("B", 2)
         self.assertEqual(bmp.element(cartan, [1, 2]), [[1, -1], [2, -1]])
@@ -105,6 +116,18 @@ class Texts(unittest.TestCase):
         vertices = [{"length": 0, "matrix": [[1]]}, {"length": 1, "matrix": [[-1]]}]
         edges = [{"lower": 0, "upper": 1, "label": [1]}]
         self.assertEqual(bmp.read_graph(text), {"vertices": vertices, "edges": edges})
+
+
+    def test_tables(self):
+        answer = bmp.read_kl("kl 0 1:1\nkl 1 0:1\nself-dual yes\n")
+        self.assertEqual(answer, {"table": [{1: 1}, {0: 1}], "self_dual": True})
+        answer = bmp.read_kl("kl 0 0:2\nself-dual no vertex 0 exponent 1 left 0 right 1\n")
+        self.assertEqual(answer, {"table": [{0: 2}], "self_dual": False})
+        graph = {"vertices": [{"length": 0}, {"length": 1}, {"length": 3}]}
+        polynomials = bmp.polynomials([{1: 1, 3: 1}, {2: 1}, {0: 1}], graph)
+        self.assertEqual(polynomials, [[1, 1], [1], [1]])
+        self.assertEqual(bmp.differing([[1, 1, 0], [1, 1, 0], [1, 0, 0]], polynomials), [1])
+        self.assertEqual(bmp.differing([[1], [1], [1]], polynomials), [])
 
 
 class Pictures(unittest.TestCase):
@@ -143,6 +166,15 @@ class Runs(unittest.TestCase):
         self.assertEqual(ups, [(1, [1, 0]), (2, [0, 1]), (5, [1, 1]), (6, [1, 2])])
         tree.fromstring(bmp.draw(answer))
 
+    def test_kl(self):
+        # of D4's word of seven letters the polynomial at vertex 0 is 1 + 2q
+        answer = bmp.kl((EXAMPLES / "d4-1342134-p2-d2.job").read_text())
+        self.assertEqual((answer["status"], answer["self_dual"], answer["table"][0]), (0, True, {5: 2, 7: 1}))
+        ranks = bmp.check((EXAMPLES / "d4-1342134-p2-d2.cert").read_text())["ranks"]
+        polynomials = bmp.polynomials(answer["table"], bmp.graph((EXAMPLES / "d4-1342134-p2-d2.job").read_text()))
+        self.assertEqual(bmp.differing(ranks, polynomials), [x for x, counts in enumerate(ranks) if counts[2]])
+        self.assertEqual(bmp.kl((EXAMPLES / "infinite.job").read_text())["line"], "job finite pairs 18 19")
+
     def test_gkm(self):
         cartan = bmp.cartan_matrix("B", 2)
         answer = bmp.gkm(bmp.job_text(cartan, 3, [1, 2, 1, 2], 0))
@@ -150,6 +182,26 @@ class Runs(unittest.TestCase):
         answer = bmp.gkm(bmp.job_text(cartan, 2, [1, 2, 1, 2], 0))
         self.assertEqual((answer["status"], answer["vertex"], answer["edges"]), (4, 0, [0, 3]))
         self.assertEqual(bmp.gkm(bmp.job_text([[2, -2], [-2, 2]], 2, [1], 0))["line"], "job finite pairs 18 19")
+
+    def test_build(self):
+        job = (EXAMPLES / "a3-2132-d1.job").read_text()
+        built = bmp.build(job)
+        self.assertEqual(built["status"], 0)
+        checked = bmp.check((EXAMPLES / "a3-2132-d1.cert").read_text())["ranks"]
+        self.assertEqual(bmp.check(built["text"])["ranks"], checked)
+        self.assertEqual(bmp.ranks(job)["ranks"], checked)
+
+    def test_tabulate(self):
+        with tempfile.TemporaryDirectory() as folder:
+            path = Path(folder) / "a2"
+            bmp.tabulate("A", 2, 2, 1, path, progress=io.StringIO())
+            lines = path.read_text().splitlines(keepends=True)
+            self.assertEqual([len(json.loads(line)["ranks"]) for line in lines], [1, 2, 2, 4, 4, 6])
+            self.assertFalse(any(json.loads(line)["differing"] for line in lines))
+            # cut off in the fifth line, and gone on with
+            path.write_text("".join(lines[:4]) + lines[4][:7])
+            bmp.tabulate("A", 2, 2, 1, path, progress=io.StringIO())
+            self.assertEqual(path.read_text().splitlines(keepends=True), lines)
 
 
 if __name__ == "__main__":
