@@ -5,8 +5,8 @@ program judges as it stands; what `check` says with status 0 is said of the job 
 
     cartan_matrix, longest_word, reduced_word, is_reduced    groups by type, Bourbaki's numbering
     job_text, job_of                                         job texts
-    check, build, ranks, graph, gkm, kl                      the program run on a text; plain dictionaries
-    read_ranks, read_graph, read_kl, read_fault              what it prints, as plain dictionaries
+    check, build, ranks, compare, graph, gkm, kl             the program run on a text; plain dictionaries
+    read_ranks, read_compare, read_graph, read_kl, read_fault    what it prints, as plain dictionaries
     polynomials, differing                                   a table's polynomials, and where ranks differ from them
     elements, tabulate                                       all elements of a type, and their ranks in a file
     draw                                                     a moment graph as SVG
@@ -23,8 +23,8 @@ from pathlib import Path
 
 __all__ = [
     "cartan_matrix", "longest_word", "reduced_word", "is_reduced", "element", "elements", "right_descents",
-    "job_text", "job_of", "check", "build", "ranks", "graph", "gkm", "kl", "run", "find_program",
-    "read_ranks", "read_graph", "read_kl", "read_fault", "polynomials", "differing", "tabulate", "draw",
+    "job_text", "job_of", "check", "build", "ranks", "compare", "graph", "gkm", "kl", "run", "find_program",
+    "read_ranks", "read_compare", "read_graph", "read_kl", "read_fault", "polynomials", "differing", "tabulate", "draw",
 ]  # fmt: skip
 
 
@@ -203,6 +203,13 @@ def ranks(text, program=None):
     return _answer(run("ranks", text, program), read_ranks)
 
 
+def compare(text, program=None):
+    """The counts of a job text beside its Kazhdan-Lusztig table. With status 0 also `self_dual`, `differing`, for
+    each count that isn't the coefficient its `vertex`, `degree`, `count` and `coefficient`, and `agree`, at how many
+    vertices none differs."""
+    return _answer(run("compare", text, program), read_compare)
+
+
 def kl(text, program=None):
     """The Kazhdan-Lusztig table of a job text. With status 0 also `table`, for each vertex x the coefficients of h_x
     by exponent, and `self_dual`."""
@@ -249,6 +256,17 @@ def read_kl(text):
     return {
         "table": [{int(exponent): int(number) for exponent, number in words} for words in pairs],
         "self_dual": last == "self-dual yes",
+    }
+
+
+def read_compare(text):
+    """The text of `compare`: of self-duality, lines `differ x d` with count and coefficient, then `agree A of n`."""
+    dual, *lines, last = text.splitlines()
+    names = ["vertex", "degree", "count", "coefficient"]
+    return {
+        "self_dual": dual == "self-dual yes",
+        "differing": [dict(zip(names, _numbers(line))) for line in lines],
+        "agree": _numbers(last)[0],
     }
 
 

@@ -123,6 +123,10 @@ class Texts(unittest.TestCase):
         self.assertEqual(answer, {"table": [{1: 1}, {0: 1}], "self_dual": True})
         answer = bmp.read_kl("kl 0 0:2\nself-dual no vertex 0 exponent 1 left 0 right 1\n")
         self.assertEqual(answer, {"table": [{0: 2}], "self_dual": False})
+        answer = bmp.read_compare("self-dual yes\ndiffer 0 2 1 0\ndiffer 3 0 1 -2\nagree 2 of 4\n")
+        fields = ["vertex", "degree", "count", "coefficient"]
+        differing = [dict(zip(fields, numbers)) for numbers in ([0, 2, 1, 0], [3, 0, 1, -2])]
+        self.assertEqual(answer, {"self_dual": True, "differing": differing, "agree": 2})
         graph = {"vertices": [{"length": 0}, {"length": 1}, {"length": 3}]}
         polynomials = bmp.polynomials([{1: 1, 3: 1}, {2: 1}, {0: 1}], graph)
         self.assertEqual(polynomials, [[1, 1], [1], [1]])
@@ -190,6 +194,17 @@ class Runs(unittest.TestCase):
         checked = bmp.check((EXAMPLES / "a3-2132-d1.cert").read_text())["ranks"]
         self.assertEqual(bmp.check(built["text"])["ranks"], checked)
         self.assertEqual(bmp.ranks(job)["ranks"], checked)
+
+    def test_compare(self):
+        # the eight vertices with torsion at 2, where the third count is 1 and P is 1 + 2q
+        answer = bmp.compare((EXAMPLES / "d4-1342134-p2-d2.job").read_text())
+        ranks = bmp.read_ranks((EXAMPLES / "d4-1342134-p2-d2.ranks").read_text())["ranks"]
+        differing = [
+            {"vertex": x, "degree": 2, "count": 1, "coefficient": 0} for x, counts in enumerate(ranks) if counts[2]
+        ]
+        self.assertEqual((answer["status"], answer["self_dual"], answer["agree"]), (0, True, 64))
+        self.assertEqual(answer["differing"], differing)
+        self.assertEqual(bmp.compare((EXAMPLES / "b2-modulo-2.job").read_text())["edges"], [0, 3])
 
     def test_tabulate(self):
         with tempfile.TemporaryDirectory() as folder:

@@ -16,7 +16,7 @@ import tempfile
 from pathlib import Path
 
 TOP = Path(__file__).resolve().parent.parent
-COMMANDS = {"output": "check", "`check`": "check", "`gkm`": "gkm", "`graph`": "graph", "`kl`": "kl"}
+COMMANDS = {"output": "check"} | {f"`{name}`": name for name in ("check", "gkm", "graph", "kl", "compare")}
 
 
 def transcript(text):

@@ -11,7 +11,7 @@ use Rattle.bmp_interval.specs.IntervalViews.{system_of, vertices_of}
 use Rattle.bmp_interval.specs.declared.interval.Interval.{Interval}
 use Rattle.bmp_graph.specs.Graph.{Graph}
 use Rattle.bmp_report.specs.GraphText.{graph_text, gkm_text}
-use Rattle.bmp_program.specs.Reports.{fault_status, JobReport, CertReport, GraphReport, GkmReport, KlReport, IsBuiltCert, BuiltReport}
+use Rattle.bmp_program.specs.Reports.{fault_status, JobReport, CertReport, GraphReport, GkmReport, KlReport, IsBuiltCert, BuiltReport, CompareReport}
 use Rattle.bmp_program.specs.Runs.{Report}
 use Rattle.bmp_program.specs.declared.status.Status.{Status}
 use Rattle.bmp_program.specs.declared.status.Status.TheVariants.{Done, BadJob, GkmFailed}
@@ -44,6 +44,11 @@ pub built_fault : (print : Graph → Cert → List ℕ) (j : Job) (s : Status) (
 built_fault print j s text is =
     subst (λ (t : Status). JobReport j t text → BuiltReport print j t text) (sym is.2)
     (by_fault (λ t. JobReport j t text → BuiltReport print j t text) is.0 (λ r. r) (λ r. r)) is
+
+pub compare_fault : (j : Job) (s : Status) (text : List ℕ) → JobReport j s text → CompareReport j s text
+compare_fault j s text is =
+    subst (λ (t : Status). JobReport j t text → CompareReport j t text) (sym is.2)
+    (by_fault (λ t. JobReport j t text → CompareReport j t text) is.0 (λ r. r) (λ r. r)) is
 
 -- where one of the rules of the graph fails, the first rule that fails is one of them
 early_status : (j : Job) (f : JobFault) → (KeepsAll graph_rules j → ⊥) → IsFirstFault j f → fault_status f ≡ BadJob

@@ -6,3 +6,4 @@ pub mod CheckAnswerLemmas
 pub mod TableLemmas
 pub mod BuiltLemmas
 pub mod WordLemmas
+pub mod CompareAnswerLemmas

@@ -7,7 +7,7 @@ use Rattle.bmp_program.specs.CommandLine.{asked, reads_input, seed_of}
 use Rattle.bmp_program.specs.Reports.{input_limit, TextReport, InputReport, SampleReport, CommandReport, IsReport}
 use Rattle.bmp_program.specs.Runs.{Relation, Report, Holds, Reports, DecidedBy, IsDecided}
 use Rattle.bmp_program.specs.declared.words.CommandWord.{CommandWord}
-use Rattle.bmp_program.specs.declared.words.CommandWord.TheVariants.{Check, Graph, Gkm, Kl, Build, Ranks, Sample}
+use Rattle.bmp_program.specs.declared.words.CommandWord.TheVariants.{Check, Graph, Gkm, Kl, Build, Ranks, Compare, Sample}
 use Rattle.bmp_program.specs.declared.status.Status.{Status}
 use Rattle.bmp_program.specs.declared.status.Status.TheVariants.{Done, Refused, BadText, BadJob, GkmFailed, ReadFault, WriteFault, NoMemory, TooLong, TableLimit, Usage}
 
@@ -53,6 +53,7 @@ not_too_long Gkm input text is = is.2
 not_too_long Kl input text is = is.2.1.2
 not_too_long Build input text is = is.2
 not_too_long Ranks input text is = is.2
+not_too_long Compare input text is = is.2.1.2
 not_too_long Sample input text is = is
 
 not_read_fault : NotOfText ReadFault
@@ -63,6 +64,7 @@ not_read_fault Gkm input text is = is.2
 not_read_fault Kl input text is = is.2.1.2
 not_read_fault Build input text is = is.2
 not_read_fault Ranks input text is = is.2
+not_read_fault Compare input text is = is.2.1.2
 not_read_fault Sample input text is = is
 
 not_write_fault : NotOfText WriteFault
@@ -73,6 +75,7 @@ not_write_fault Gkm input text is = is.2
 not_write_fault Kl input text is = is.2.1.2
 not_write_fault Build input text is = is.2
 not_write_fault Ranks input text is = is.2
+not_write_fault Compare input text is = is.2.1.2
 not_write_fault Sample input text is = is
 
 not_no_memory : NotOfText NoMemory
@@ -83,6 +86,7 @@ not_no_memory Gkm input text is = is.2
 not_no_memory Kl input text is = is.2.1.2
 not_no_memory Build input text is = is.2
 not_no_memory Ranks input text is = is.2
+not_no_memory Compare input text is = is.2.1.2
 not_no_memory Sample input text is = is
 
 -- what is answered to an input within the limit is decided
@@ -226,3 +230,4 @@ reads_nothing Gkm none = cc
 reads_nothing Kl none = cc
 reads_nothing Build none = cc
 reads_nothing Ranks none = cc
+reads_nothing Compare none = cc

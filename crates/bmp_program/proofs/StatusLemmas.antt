@@ -25,10 +25,11 @@ use Rattle.bmp_text.specs.Printing.{Chosen}
 use Rattle.bmp_check.specs.Verdicts.{Passes, IsFirstRefusal}
 use Rattle.bmp_check.specs.declared.refusal.Refusal.{Refusal}
 use Rattle.bmp_program.proofs.TableLemmas.{TableFits, TablePasses, table_fits, table_passes, fits_or_passes}
+use Rattle.bmp_program.proofs.CompareAnswerLemmas.{compared_fits}
 use Rattle.bmp_program.specs.CommandLine.{asked, reads_input, seed_of}
-use Rattle.bmp_program.specs.Reports.{input_limit, IsCertOf, IsJobOf, fault_status, CertReport, GraphReport, GkmReport, KlReport, BuiltReport, BuildReport, RanksReport, SampleReport, CertTextReport, JobTextReport, TextReport, InputReport, CommandReport, IsReport, HasOneStatus}
+use Rattle.bmp_program.specs.Reports.{input_limit, IsCertOf, IsJobOf, fault_status, CertReport, GraphReport, GkmReport, KlReport, BuiltReport, BuildReport, RanksReport, CompareReport, SampleReport, CertTextReport, JobTextReport, TextReport, InputReport, CommandReport, IsReport, HasOneStatus}
 use Rattle.bmp_program.specs.declared.words.CommandWord.{CommandWord}
-use Rattle.bmp_program.specs.declared.words.CommandWord.TheVariants.{Check, Graph as GraphCommand, Gkm as GkmCommand, Kl as KlCommand, Build, Ranks, Sample}
+use Rattle.bmp_program.specs.declared.words.CommandWord.TheVariants.{Check, Graph as GraphCommand, Gkm as GkmCommand, Kl as KlCommand, Build, Ranks, Compare, Sample}
 use Rattle.bmp_program.specs.declared.status.Status.{Status}
 use Rattle.bmp_program.specs.declared.status.Status.TheVariants.{Done, Refused, BadText, BadJob, GkmFailed, ReadFault, WriteFault, NoMemory, TooLong, TableLimit, Usage}
 
@@ -233,13 +234,13 @@ one_built : (print : Graph → Cert → List ℕ) (j : Job) (s t : Status) (a b 
 one_built print j s t a b p q =
     one_decided (KeepsAll rules) j s t (built_case print j s a p) (built_case print j t b q)
 
--- the table of a job that keeps the rules of the graph keeps the limit or passes it
-KlCase : Job → Status → Type 0
-KlCase j s = (JobCase j s × (KeepsAll graph_rules j → ⊥))
-    ⊎ (((s ≡ Done) × KeepsAll graph_rules j × TableFits j) ⊎ ((s ≡ TableLimit) × KeepsAll graph_rules j × TablePasses j))
+-- the table of a job that keeps the rules that are tried keeps the limit or passes it
+TableCase : (Job → Type 0) → Job → Status → Type 0
+TableCase Kept j s = (JobCase j s × (Kept j → ⊥))
+    ⊎ (((s ≡ Done) × Kept j × TableFits j) ⊎ ((s ≡ TableLimit) × Kept j × TablePasses j))
 
-kl_case : (j : Job) (s : Status) (text : List ℕ) → KlReport j s text → KlCase j s
-unfolding KlCase
+kl_case : (j : Job) (s : Status) (text : List ℕ) → KlReport j s text → TableCase (KeepsAll graph_rules) j s
+unfolding TableCase
 kl_case j BadJob text is = let broken = job_case j BadJob is.0 is.1 is.2 in inl (broken, bad_job j broken)
 kl_case j Done text is = inr (inl (refl, is.0, table_fits j text is.1))
 kl_case j TableLimit text is = inr (inr (refl, is.0, table_passes j text is.1))
@@ -252,17 +253,33 @@ kl_case j NoMemory text is = absurd is.1.2
 kl_case j TooLong text is = absurd is.1.2
 kl_case j Usage text is = absurd is.1.2
 
-one_kl_case : (j : Job) (s t : Status) → KlCase j s → KlCase j t → s ≡ t
-unfolding KlCase
-one_kl_case j s t (inl a) (inl b) = one_job_case j s t a.0 b.0
-one_kl_case j s t (inl a) (inr (inl b)) = absurd (a.1 b.1)
-one_kl_case j s t (inl a) (inr (inr b)) = absurd (a.1 b.1)
-one_kl_case j s t (inr (inl a)) (inl b) = absurd (b.1 a.1)
-one_kl_case j s t (inr (inl a)) (inr (inl b)) = a.0 ∙ sym b.0
-one_kl_case j s t (inr (inl a)) (inr (inr b)) = absurd (fits_or_passes j a.2 b.2)
-one_kl_case j s t (inr (inr a)) (inl b) = absurd (b.1 a.1)
-one_kl_case j s t (inr (inr a)) (inr (inl b)) = absurd (fits_or_passes j b.2 a.2)
-one_kl_case j s t (inr (inr a)) (inr (inr b)) = a.0 ∙ sym b.0
+compare_case : (j : Job) (s : Status) (text : List ℕ) → CompareReport j s text → TableCase (KeepsAll rules) j s
+unfolding TableCase
+compare_case j BadJob text is = let broken = job_case j BadJob is.0 is.1 is.2 in
+    inl (broken, job_breaks j BadJob broken)
+compare_case j GkmFailed text is = let broken = job_case j GkmFailed is.0 is.1 is.2 in
+    inl (broken, job_breaks j GkmFailed broken)
+compare_case j Done text is = inr (inl (refl, is.0, compared_fits j text is.1))
+compare_case j TableLimit text is = inr (inr (refl, is.0, table_passes j text is.1))
+compare_case j BadText text is = absurd is.1.2
+compare_case j Refused text is = absurd is.1.2
+compare_case j ReadFault text is = absurd is.1.2
+compare_case j WriteFault text is = absurd is.1.2
+compare_case j NoMemory text is = absurd is.1.2
+compare_case j TooLong text is = absurd is.1.2
+compare_case j Usage text is = absurd is.1.2
+
+one_table_case : (Kept : Job → Type 0) (j : Job) (s t : Status) → TableCase Kept j s → TableCase Kept j t → s ≡ t
+unfolding TableCase
+one_table_case Kept j s t (inl a) (inl b) = one_job_case j s t a.0 b.0
+one_table_case Kept j s t (inl a) (inr (inl b)) = absurd (a.1 b.1)
+one_table_case Kept j s t (inl a) (inr (inr b)) = absurd (a.1 b.1)
+one_table_case Kept j s t (inr (inl a)) (inl b) = absurd (b.1 a.1)
+one_table_case Kept j s t (inr (inl a)) (inr (inl b)) = a.0 ∙ sym b.0
+one_table_case Kept j s t (inr (inl a)) (inr (inr b)) = absurd (fits_or_passes j a.2 b.2)
+one_table_case Kept j s t (inr (inr a)) (inl b) = absurd (b.1 a.1)
+one_table_case Kept j s t (inr (inr a)) (inr (inl b)) = absurd (fits_or_passes j b.2 a.2)
+one_table_case Kept j s t (inr (inr a)) (inr (inr b)) = a.0 ∙ sym b.0
 
 -- the case of a job text, by the cases of a job
 JobTextCase : (Job → Status → Type 0) → List ℕ → Status → Type 0
@@ -323,7 +340,12 @@ one_text GraphCommand input s t a b p q =
     a b p q
 one_text GkmCommand input s t a b p q =
     one_job_text GkmReport (Decides (KeepsAll rules)) gkm_case (one_decided (KeepsAll rules)) input s t a b p q
-one_text KlCommand input s t a b p q = one_job_text KlReport KlCase kl_case one_kl_case input s t a b p q
+one_text KlCommand input s t a b p q =
+    one_job_text KlReport (TableCase (KeepsAll graph_rules)) kl_case (one_table_case (KeepsAll graph_rules)) input s t
+    a b p q
+one_text Compare input s t a b p q =
+    one_job_text CompareReport (TableCase (KeepsAll rules)) compare_case (one_table_case (KeepsAll rules)) input s t a b
+    p q
 one_text Build input s t a b p q =
     one_job_text BuildReport (Decides (KeepsAll rules)) (built_case (λ g c. cert_text c)) (one_decided (KeepsAll rules))
     input s t a b p q

@@ -19,7 +19,7 @@ use Rattle.clap.specs.Simple.{App, new_app, new_rule, with_rule, on_top, matches
 use Rattle.clap.specs.Faults.{fault_of}
 use Rattle.clap.specs.declared.builder.value_parser.ValueParser.TheVariants as parser
 use Rattle.bmp_program.specs.declared.words.CommandWord.{CommandWord}
-use Rattle.bmp_program.specs.declared.words.CommandWord.TheVariants.{Check, Graph, Gkm, Kl, Build, Ranks, Sample}
+use Rattle.bmp_program.specs.declared.words.CommandWord.TheVariants.{Check, Graph, Gkm, Kl, Build, Ranks, Compare, Sample}
 
 -- the command word, which is required
 abbrev pub command_rule : Rule
@@ -60,7 +60,8 @@ named text =
     else (if bytes_eq text (codes "kl") then Some Kl
     else (if bytes_eq text (codes "build") then Some Build
     else (if bytes_eq text (codes "ranks") then Some Ranks
-    else (if bytes_eq text (codes "sample") then Some Sample else None))))))
+    else (if bytes_eq text (codes "compare") then Some Compare
+    else (if bytes_eq text (codes "sample") then Some Sample else None)))))))
 
 abbrev pub takes_seed : CommandWord → Bool
 takes_seed Check = false
@@ -69,6 +70,7 @@ takes_seed Gkm = false
 takes_seed Kl = false
 takes_seed Build = false
 takes_seed Ranks = false
+takes_seed Compare = false
 takes_seed Sample = true
 
 abbrev pub reads_input : CommandWord → Bool
@@ -78,6 +80,7 @@ reads_input Gkm = true
 reads_input Kl = true
 reads_input Build = true
 reads_input Ranks = true
+reads_input Compare = true
 reads_input Sample = false
 
 -- the command, but none where a seed is given and the command takes none

@@ -18,6 +18,14 @@
 --                               what is answered to a job whose certificate is built: any such certificate will do, and
 --                               of it this is printed
 --   BuildReport, RanksReport    what `build` and `ranks` answer to a job: the text of such a certificate, and its ranks
+--   IsBuiltComparison j G h q text
+--                               the text compares the numbers of such a certificate with h, by the lengths of G
+--   IsCompared j roots vertices text
+--                               the same with h and q the table of the vertices, within the limit
+--   ComparedReport j roots vertices status text
+--                               what `compare` answers to the vertices of a job: the comparison, or the first of them
+--                               that passes the limit
+--   CompareReport               what `compare` answers to a job
 --   SampleReport n status text  what `sample` answers: the summary of such a certificate of the job of this number
 --   table_limit                 how large in size the coefficients of a table may be
 --   TableReport roots vertices status text
@@ -63,13 +71,14 @@ use Rattle.bmp_check.specs.Refusals.{refusal_text}
 use Rattle.bmp_check.specs.Verdicts.{Passes, IsFirstRefusal}
 use Rattle.bmp_report.specs.FaultLines.{text_fault_line, job_fault_line}
 use Rattle.bmp_report.specs.GraphText.{graph_text, gkm_text}
+use Rattle.bmp_report.specs.CompareText.{cert_comparison, IsCompareText}
 use Rattle.bmp_report.specs.RankLines.{cert_rank_lines}
 use Rattle.bmp_report.specs.SampleJobs.{sample_job}
 use Rattle.bmp_report.specs.SummaryText.{summary_text}
 use Rattle.bmp_report.specs.TableText.{IsKlText, limit_line}
 use Rattle.bmp_program.specs.CommandLine.{asked, reads_input, seed_of}
 use Rattle.bmp_program.specs.declared.words.CommandWord.{CommandWord}
-use Rattle.bmp_program.specs.declared.words.CommandWord.TheVariants.{Check, Graph as GraphCommand, Gkm as GkmCommand, Kl as KlCommand, Build, Ranks, Sample}
+use Rattle.bmp_program.specs.declared.words.CommandWord.TheVariants.{Check, Graph as GraphCommand, Gkm as GkmCommand, Kl as KlCommand, Build, Ranks, Compare, Sample}
 use Rattle.bmp_program.specs.declared.status.Status.{Status}
 use Rattle.bmp_program.specs.declared.status.Status.TheVariants.{Done, Refused, BadText, BadJob, GkmFailed, TooLong, TableLimit, Usage}
 
@@ -179,6 +188,33 @@ RanksReport = BuiltReport (λ G c. cert_rank_lines c)
 abbrev pub SampleReport : ℕ → Status → List ℕ → Type 0
 SampleReport n = BuiltReport (λ G c. summary_text n c.job G (generator_count (written_by c))) (sample_job n)
 
+-- the numbers of a certificate that is built, beside h
+pub record IsBuiltComparison (j : Job) (G : Graph) (h q : ℕ → Laurent) (text : List ℕ) : Type 0 where
+  pub cert : Cert
+  pub built : IsBuiltCert j G cert
+  pub text_is : IsCompareText (cert_comparison cert G.lengths h) h q text
+
+pub record IsCompared (j : Job) (roots : Roots) (vertices : List Elem) (text : List ℕ) : Type 0 where
+  pub h : ℕ → Laurent
+  pub q : ℕ → Laurent
+  pub table : IsTable (length vertices) (bars_of (matrix_of roots) (positive_roots_of roots) vertices) h q
+  pub within : (x : ℕ) (e : ℤ) → x < length vertices → unsigned_abs (h x e) ≤ table_limit
+  pub graph : Graph
+  pub comparison : IsBuiltComparison j graph h q text
+
+abbrev pub ComparedReport : Job → Roots → List Elem → Status → List ℕ → Type 0
+ComparedReport j roots vertices Done text = IsCompared j roots vertices text
+ComparedReport j roots vertices TableLimit text = TableReport roots vertices TableLimit text
+ComparedReport j roots vertices _ text = ⊥
+
+-- all rules come before the table
+abbrev pub CompareReport : Job → Status → List ℕ → Type 0
+CompareReport j BadJob text = JobReport j BadJob text
+CompareReport j GkmFailed text = JobReport j GkmFailed text
+CompareReport j status text =
+    KeepsAll rules j × ((vertices : List Elem) × (of : IsJobInterval j vertices) ×
+    ComparedReport j of.roots vertices status text)
+
 -- ---- inputs
 
 -- the text of no job, with the first fault in reading order, or the text of one
@@ -194,6 +230,7 @@ TextReport GkmCommand input status text = JobTextReport GkmReport input status t
 TextReport KlCommand input status text = JobTextReport KlReport input status text
 TextReport Build input status text = JobTextReport BuildReport input status text
 TextReport Ranks input status text = JobTextReport RanksReport input status text
+TextReport Compare input status text = JobTextReport CompareReport input status text
 TextReport Sample input status text = ⊥  -- it reads nothing
 
 unfoldable pub InputReport : CommandWord → List ℕ → Status → List ℕ → Type 0

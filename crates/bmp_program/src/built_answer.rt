@@ -29,8 +29,8 @@ fn built_version(lattice: Lattice) -> u8
     }
 }
 
-// A certificate of an accepted job.
-fn built(
+/// A certificate of an accepted job.
+pub(crate) fn built(
     rt: &(impl Threads + Sync),
     alloc: Global,
     accepted: &Accepted,
@@ -51,8 +51,8 @@ fn built(
     )
 }
 
-// The ranks of a check of a certificate that was built, which no comparison refuses.
-fn checked(
+/// The ranks of a check of a certificate that was built, which no comparison refuses.
+pub(crate) fn checked(
     rt: &(impl Threads + Sync),
     alloc: Global,
     accepted: &Accepted,

@@ -9,6 +9,7 @@ use crate::Status;
 use crate::answer::{Answer, fixed};
 use crate::built_answer::{report_build, report_ranks, report_sample};
 use crate::check::report_check;
+use crate::compare_answer::report_compare;
 use crate::job_answer::{report_gkm, report_graph};
 use crate::table_answer::report_kl;
 use crate::words::{CommandWord, Request};
@@ -36,6 +37,7 @@ fn report_on(
         CommandWord::Kl => report_kl(alloc, input),
         CommandWord::Build => report_build(rt, alloc, input, request.workers),
         CommandWord::Ranks => report_ranks(rt, alloc, input, request.workers),
+        CommandWord::Compare => report_compare(rt, alloc, input, request.workers),
         CommandWord::Sample => unreachable!(),
     }
 }

@@ -4,6 +4,7 @@
 mod answer;
 mod built_answer;
 mod check;
+mod compare_answer;
 mod input;
 mod job_answer;
 pub mod laws;

@@ -13,8 +13,8 @@ use bmp_kl::{KlError, kl_table};
 use bmp_report::{kl_text, limit_line, text_line};
 use std::alloc::{AllocError, Global};
 
-// How large in size the coefficients of a table may be.
-const TABLE_LIMIT: i64 = 1_000_000;
+/// How large in size the coefficients of a table may be.
+pub(crate) const TABLE_LIMIT: i64 = 1_000_000;
 
 // The table of an interval, or the first vertex that passes the limit.
 fn table_answer(alloc: Global, interval: &Interval) -> Result<Answer, AllocError>

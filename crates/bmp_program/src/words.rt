@@ -24,6 +24,8 @@ pub enum CommandWord {
     Build,
     /// Builds a certificate of a job, checks it and prints its ranks.
     Ranks,
+    /// Builds a certificate of a job, checks it and compares its ranks with the Kazhdan-Lusztig table.
+    Compare,
     /// Builds and checks a certificate of a job that a number tells, and prints a summary.
     Sample,
 }
@@ -127,6 +129,7 @@ fn named_command(word: &str) -> Option<CommandWord>
         "kl" => Some(CommandWord::Kl),
         "build" => Some(CommandWord::Build),
         "ranks" => Some(CommandWord::Ranks),
+        "compare" => Some(CommandWord::Compare),
         "sample" => Some(CommandWord::Sample),
         _ => None,
     }
@@ -143,7 +146,8 @@ fn takes_seed(command: CommandWord) -> bool
         | CommandWord::Gkm
         | CommandWord::Kl
         | CommandWord::Build
-        | CommandWord::Ranks => false,
+        | CommandWord::Ranks
+        | CommandWord::Compare => false,
     }
 }
 
@@ -158,7 +162,8 @@ pub(crate) fn reads_input(command: CommandWord) -> bool
         | CommandWord::Gkm
         | CommandWord::Kl
         | CommandWord::Build
-        | CommandWord::Ranks => true,
+        | CommandWord::Ranks
+        | CommandWord::Compare => true,
     }
 }
 

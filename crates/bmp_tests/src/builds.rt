@@ -1,4 +1,4 @@
-//! What is built: the commands `build`, `ranks` and `sample`.
+//! What is built: the commands `build`, `ranks`, `compare` and `sample`.
 use crate::runs::{assert_run, written_by};
 use bmp_program::Status;
 use std::test::Fail;
@@ -74,6 +74,23 @@ fn ranks_of_jobs(rt: HostRuntime) -> Result<(), Fail> {
     Ok(())
 }
 
+const A1: &str = "bmp-job 1\nrank 1\nrow 2\nprime 2\nword 1 1\ndegree 1\nend\n";
+
+/// The polynomials of A3 and its word are 1 + q at the vertices 0 and 3, and else 1, as the ranks.
+#[test]
+fn ranks_beside_tables(rt: HostRuntime) -> Result<(), Fail> {
+    for (input, written) in [
+        (A1, "self-dual yes\nagree 2 of 2\n"),
+        (A1_ROOT, "self-dual yes\nagree 2 of 2\n"),
+        (A3, "self-dual yes\nagree 14 of 14\n"),
+    ] {
+        for line in ["compare", "compare --workers 7"] {
+            assert_run(&rt, rt.alloc(), line, input, Status::Done, written)?;
+        }
+    }
+    Ok(())
+}
+
 #[test]
 fn jobs_that_are_not_built(rt: HostRuntime) -> Result<(), Fail> {
     for (input, status, written) in [
@@ -89,11 +106,11 @@ fn jobs_that_are_not_built(rt: HostRuntime) -> Result<(), Fail> {
             "job prime 4\n",
         ),
     ] {
-        for line in ["build", "ranks"] {
+        for line in ["build", "ranks", "compare"] {
             assert_run(&rt, rt.alloc(), line, input, status, written)?;
         }
     }
-    for line in ["build --seed 1", "ranks --seed 1"] {
+    for line in ["build --seed 1", "ranks --seed 1", "compare --seed 1"] {
         assert_run(&rt, rt.alloc(), line, A2, Status::Usage, "usage\n")?;
     }
     Ok(())
