@@ -12,6 +12,8 @@ import textwrap
 from pathlib import Path
 
 WIDTH = 120
+# where files are looked for when none is named: never in what a check leaves in out/
+PARTS = ["specs/**/*.antt", "proofs/**/*.antt", "src/**/*.rt"]
 OPENING, CLOSING = "([{", ")]}"
 BEHIND = {"→": 6, "↔": 6, "=": 9, ":": 7, "in": 8, "then": 3, "×": 5, "⊎": 5, "%": -12, "+": -6, "*": -6, "≡": -4}
 BEFORE = {"∙": 6, "%": 4, "≡": 3, "then": 4, "else": 4, "→": 0, "=": -20, "↦": -20, ":": -6, "in": -30}
@@ -121,7 +123,7 @@ def main():
     named = [Path(word) for word in words if word != "--check"]
     top = Path(__file__).resolve().parent.parent
     wide = 0
-    for path in named or sorted([*top.glob("crates/*/*/**/*.antt"), *top.glob("crates/*/src/**/*.rt")]):
+    for path in named or sorted(path for part in PARTS for path in top.glob(f"crates/*/{part}")):
         lines = path.read_text().split("\n")
         marked = [number for number, line in enumerate(lines, 1) if is_wide(line)]
         if check:
