@@ -89,6 +89,7 @@ pub fn read_all<S: Source>(
         let n = source.read(bytes.slice_mut(filled..))?;
         if n == 0 {
             bytes.truncate(filled);
+            bytes.shrink_to_fit();
             return Ok(bytes);
         }
         filled += n;

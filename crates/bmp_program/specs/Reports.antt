@@ -11,9 +11,8 @@
 --                               fails, or its ranks
 --   GraphReport, GkmReport, KlReport
 --                               what `graph`, `gkm` and `kl` answer to a job
---   built_version l             the version of the certificates by levels of jobs with the lattice l
---   IsBuiltCert j G c           c is such a certificate of the job j, and none of its comparisons fails on the graph G
---                               of the job
+--   IsBuiltCert j G c           c is a certificate by levels of the job j, and none of its comparisons fails on the
+--                               graph G of the job
 --   BuiltReport print j status text
 --                               what is answered to a job whose certificate is built: any such certificate will do, and
 --                               of it this is printed
@@ -63,8 +62,7 @@ use Rattle.bmp_cert.specs.CertGrammar.{cert, cert_text, IsWellFormed}
 use Rattle.bmp_cert.specs.JobGrammar.{job, job_text, IsWellFormedJob}
 use Rattle.bmp_cert.specs.Counts.{written_by, generator_count}
 use Rattle.bmp_cert.specs.JobGraphs.{IsJobGraph, IsJobInterval}
-use Rattle.bmp_cert.specs.declared.lattice.Lattice.{Lattice}
-use Rattle.bmp_cert.specs.declared.lattice.Lattice.TheVariants.{Plain, Root, Weight}
+use Rattle.bmp_cert.specs.Versions.{IsVersionOf}
 use Rattle.bmp_cert.specs.JobRules.{graph_rules, rules, KeepsAll, IsFirstFault}
 use Rattle.bmp_check.specs.declared.refusal.Refusal.{Refusal}
 use Rattle.bmp_check.specs.Refusals.{refusal_text}
@@ -160,15 +158,11 @@ KlReport j status text =
 
 -- ---- what is built
 
-abbrev pub built_version : Lattice → ℕ
-built_version Plain = 2
-built_version Root = 3
-built_version Weight = 3
-
 pub record IsBuiltCert (j : Job) (G : Graph) (c : Cert) : Type 0 where
   pub formed : IsWellFormed c
   pub job : c.job ≡ j
-  pub version : c.version ≡ built_version j.lattice
+  pub version : IsVersionOf j.lattice c.version
+  pub levels : 2 ≤ c.version
   pub graph : IsJobGraph j G
   pub passes : Passes G c.version (written_by c)
 

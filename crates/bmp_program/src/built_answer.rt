@@ -4,30 +4,20 @@ ghost use Rattle.bmp_cert.specs.Counts.{written_by, IsRanksOf};
 ghost use Rattle.bmp_cert.specs.JobGraphs.{IsJobGraph};
 ghost use Rattle.bmp_cert.specs.JobGrammar.{IsWellFormedJob};
 ghost use Rattle.bmp_cert.specs.JobViews.{job_of, graph_of, prepared_of};
-ghost use Rattle.bmp_program.specs.Reports.{built_version, IsBuiltCert, BuildReport, RanksReport, SampleReport, JobTextReport};
+ghost use Rattle.bmp_program.specs.Reports.{IsBuiltCert, BuildReport, RanksReport, SampleReport, JobTextReport};
 ghost use Rattle.bmp_program.specs.Runs.{answer_view};
 
 use crate::Status;
 use crate::answer::{Answer, made};
 use crate::job_answer::fault_answer;
-use bmp_build::build;
+use bmp_build::{build, level_version};
 use bmp_cert::{
-    Accepted, Cert, CertError, Job, JobError, Lattice, Ranks, accept_job, print_cert, read_job,
+    Accepted, Cert, CertError, Job, JobError, Ranks, accept_job, print_cert, read_job,
 };
 use bmp_check::{CheckError, check};
 use bmp_report::{ranks_text, sample_job, summary_text, text_line};
 use std::alloc::{AllocError, Global};
 use std::thread::Threads;
-
-// The version of the certificates by levels of jobs with a lattice.
-fn built_version(lattice: Lattice) -> u8
-    ensures { result ≡ built_version lattice }
-{
-    match lattice {
-        Lattice::Plain => 2,
-        Lattice::Root | Lattice::Weight => 3,
-    }
-}
 
 /// A certificate of an accepted job.
 pub(crate) fn built(
@@ -46,7 +36,7 @@ pub(crate) fn built(
         rt,
         alloc,
         accepted,
-        built_version(accepted.job().lattice),
+        level_version(accepted.job().lattice),
         workers,
     )
 }

@@ -62,17 +62,20 @@ fn report_on_cert(
     }
 }
 
-/// What `check` answers to an input, by so many workers.
+/// What `check` answers to an input, by so many workers. Once the certificate is read, the bytes of the input are given
+/// back.
 pub(crate) fn report_check(
     rt: &(impl Threads + Sync),
     alloc: Global,
-    input: &[u8],
+    input: Vec<u8>,
     workers: u32,
 ) -> Result<Answer, AllocError>
     requires { (1 ≤ workers) × (workers ≤ 32) }
-    ensures { IfOk result (λ a. CertTextReport input.now (answer_view a).status (answer_view a).text) }
+    ensures { IfOk result (λ a. CertTextReport input.items (answer_view a).status (answer_view a).text) }
 {
-    match read_cert(alloc, input) {
+    let read = read_cert(alloc, &input);
+    drop(input);
+    match read {
         Ok(cert) => report_on_cert(rt, alloc, &cert, workers),
         Err(CertError::Text(fault)) => {
             let line = text_line(alloc, &fault)?;

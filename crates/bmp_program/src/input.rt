@@ -22,22 +22,22 @@ fn report_on(
     rt: &(impl Threads + Sync),
     alloc: Global,
     request: Request,
-    input: &[u8],
+    input: Vec<u8>,
 ) -> Result<Answer, AllocError>
-    requires limit { length input.now ≤ READ_LIMIT }
+    requires limit { length input.items ≤ READ_LIMIT }
     requires reads { reads_input request.command ≡ true }
     requires workers { (1 ≤ request.workers) × (request.workers ≤ 32) }
     ensures { IfOk result (λ a.
-        TextReport request.command input.now (answer_view a).status (answer_view a).text) }
+        TextReport request.command input.items (answer_view a).status (answer_view a).text) }
 {
     match request.command {
         CommandWord::Check => report_check(rt, alloc, input, request.workers),
-        CommandWord::Graph => report_graph(alloc, input),
-        CommandWord::Gkm => report_gkm(alloc, input),
-        CommandWord::Kl => report_kl(alloc, input),
-        CommandWord::Build => report_build(rt, alloc, input, request.workers),
-        CommandWord::Ranks => report_ranks(rt, alloc, input, request.workers),
-        CommandWord::Compare => report_compare(rt, alloc, input, request.workers),
+        CommandWord::Graph => report_graph(alloc, &input),
+        CommandWord::Gkm => report_gkm(alloc, &input),
+        CommandWord::Kl => report_kl(alloc, &input),
+        CommandWord::Build => report_build(rt, alloc, &input, request.workers),
+        CommandWord::Ranks => report_ranks(rt, alloc, &input, request.workers),
+        CommandWord::Compare => report_compare(rt, alloc, &input, request.workers),
         CommandWord::Sample => unreachable!(),
     }
 }
@@ -56,7 +56,7 @@ pub(crate) fn answer_to<S: Source>(
     ensures end { (answer_view result).status ≡ Status.Done → IsAtEnd (S.left source.new) }
 {
     match read_all(alloc, source, READ_LIMIT) {
-        Ok(input) => match report_on(rt, alloc, request, &input) {
+        Ok(input) => match report_on(rt, alloc, request, input) {
             Ok(answer) => answer,
             Err(_) => fixed(Status::NoMemory, b"no memory\n"),
         },

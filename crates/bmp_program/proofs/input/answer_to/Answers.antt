@@ -1,6 +1,5 @@
-use Rattle.std.proofs.Common.{Err, ap, subst}
+use Rattle.std.proofs.Common.{Err, ap}
 use Rattle.bmp_ports.specs.Ports.{Rose}
-use Rattle.bmp_program.specs.Reports.{TextReport}
 use Rattle.bmp_program.specs.Runs.{answer_view}
 use Rattle.bmp_program.proofs.ReportLemmas.{whole_held, report_decided, long_decided}
 use Rattle.bmp_program.proofs.input.answer_to.Goals as goal
@@ -12,8 +11,7 @@ returns-in-Ok-report_on-clause-answer g c =
     (Rose (g.S.Source.faults c.args.source.now) (g.S.Source.faults c.read_all.new.source)) a c.in-Ok.input.items
     (whole_held (g.S.Source.left c.args.source.now) (g.S.Source.left c.read_all.new.source) c.in-Ok.input.items
     c.in-Ok.ensures.all c.in-Ok.ensures.end)
-    c.in-Ok.ensures.within
-    (subst (λ i. TextReport c.args.request.command i a.status a.text) c.deref.ensures.value c.in-Ok-report_on.ensures)
+    c.in-Ok.ensures.within c.in-Ok-report_on.ensures
 
 pub returns-in-Err-TooLong-clause-answer : goal.returns-in-Err-TooLong-clause-answer
 returns-in-Err-TooLong-clause-answer g c =
