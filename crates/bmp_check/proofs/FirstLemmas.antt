@@ -104,4 +104,5 @@ pub first_of_pieces :
     (s : Shaped) (workers : ℕ) (kept : Kept) → 1 ≤ workers → KeepsFirst s (IsOfFirst s workers workers) (Some kept) →
     IsFirstBlockRefusal (graph_in s) (method_at s) (cert_in s) kept.refusal
 first_of_pieces s workers kept some h =
-    first_block s kept.block h.numbered (λ i before. h.earlier i before (of_all s workers i some)) kept.refusal h.refused
+    first_block s kept.block h.numbered (λ i before. h.earlier i before (of_all s workers i some)) kept.refusal
+        h.refused

@@ -308,7 +308,8 @@ module _ (report : Job → Status → List ℕ → Type 0) (Case : Job → Statu
 
 module _ (Case : Job → Status → Type 0) (one : (j : Job) (s t : Status) → Case j s → Case j t → s ≡ t) (input : List ℕ)
   where
-    same_job : (i j : Job) (s t : Status) → whole job input ≡ Ok i → whole job input ≡ Ok j → Case i s → Case j t → s ≡ t
+    same_job : (i j : Job) (s t : Status) → whole job input ≡ Ok i → whole job input ≡ Ok j → Case i s → Case j t →
+        s ≡ t
     same_job i j s t of_i of_j p q =
         let same : j ≡ i = cc in
         one i s t p (subst (λ (k : Job). Case k t) same q)

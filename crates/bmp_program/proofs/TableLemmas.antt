@@ -1,5 +1,5 @@
--- The table of a job is one: its coefficients don't both keep the limit and pass it. And the table of a prepared job, as
--- a report of `kl`.
+-- The table of a job is one: its coefficients don't both keep the limit and pass it. And the table of a prepared job,
+-- as a report of `kl`.
 use Rattle.std.proofs.Common.{◌≡◌, ◌<◌, ◌≤◌, ℕ, ℤ, List, length, sym, ap, subst, ◌∙◌, arith}
 use Rattle.std.proofs.Math.Path.{fun_ext}
 use Rattle.std.specs.Int.RustNames.{unsigned_abs}

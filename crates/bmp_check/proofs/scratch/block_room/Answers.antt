@@ -52,7 +52,8 @@ returns-clause-rows c =
     c.vertices-vertices.ensures.count ∙ ap (λ (H : Graph). vertex_count H) c.graph-graph.ensures in
     let bound : D ≡ cert.degree = ap (λ (g : Given). g.degree) c.given-given.ensures in
     λ x d block.
-    (blocks_all G cert (IsWithin G m cert c.each.rows c.each.most c.each.sections) n D c.each.i vertices bound c.each.invariant
+    (blocks_all G cert (IsWithin G m cert c.each.rows c.each.most c.each.sections) n D c.each.i vertices bound
+        c.each.invariant
     (omega (arith, c.each-test.false, c.block_count-i-end.ensures.count)) x d block).0
 
 pub returns-clause-sizes : goal.returns-clause-sizes
@@ -66,7 +67,8 @@ returns-clause-sizes c =
     c.vertices-vertices.ensures.count ∙ ap (λ (H : Graph). vertex_count H) c.graph-graph.ensures in
     let bound : D ≡ cert.degree = ap (λ (g : Given). g.degree) c.given-given.ensures in
     λ x d block.
-    (blocks_all G cert (IsWithin G m cert c.each.rows c.each.most c.each.sections) n D c.each.i vertices bound c.each.invariant
+    (blocks_all G cert (IsWithin G m cert c.each.rows c.each.most c.each.sections) n D c.each.i vertices bound
+        c.each.invariant
     (omega (arith, c.each-test.false, c.block_count-i-end.ensures.count)) x d block).1
 
 pub returns-clause-sections : goal.returns-clause-sections
@@ -80,5 +82,6 @@ returns-clause-sections c =
     c.vertices-vertices.ensures.count ∙ ap (λ (H : Graph). vertex_count H) c.graph-graph.ensures in
     let bound : D ≡ cert.degree = ap (λ (g : Given). g.degree) c.given-given.ensures in
     λ x d block.
-    (blocks_all G cert (IsWithin G m cert c.each.rows c.each.most c.each.sections) n D c.each.i vertices bound c.each.invariant
+    (blocks_all G cert (IsWithin G m cert c.each.rows c.each.most c.each.sections) n D c.each.i vertices bound
+        c.each.invariant
     (omega (arith, c.each-test.false, c.block_count-i-end.ensures.count)) x d block).2
