@@ -1,7 +1,9 @@
-//! Tests of tasks and pieces: who passes the gate, that two threads are at work at once, and what comes of it by any
-//! number of workers.
+//! Tests of tasks and pieces, and of whole checks by several workers: who passes the gate, that two threads are at work
+//! at once, and what comes of it by any number of workers.
 #![tactic(auto)]
 
+#[cfg(test)]
+mod checks;
 #[cfg(test)]
 mod gates;
 #[cfg(test)]

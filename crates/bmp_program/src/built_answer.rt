@@ -14,8 +14,9 @@ use bmp_build::{build, level_version};
 use bmp_cert::{
     Accepted, Cert, CertError, Job, JobError, Ranks, accept_job, print_cert, read_job,
 };
-use bmp_check::{CheckError, check};
+use bmp_check::{CheckError, check_with};
 use bmp_report::{ranks_text, sample_job, summary_text, text_line};
+use bmp_par::Gate;
 use std::alloc::{AllocError, Global};
 use std::thread::Threads;
 
@@ -42,18 +43,19 @@ pub(crate) fn built(
 }
 
 /// The ranks of a check of a certificate that was built, which no comparison refuses.
-pub(crate) fn checked(
+pub(crate) fn checked<G: Gate>(
     rt: &(impl Threads + Sync),
     alloc: Global,
     accepted: &Accepted,
     cert: &Cert,
     workers: u32,
+    gate: &G,
 ) -> Result<Ranks, AllocError>
     requires built { IsBuiltCert (job_of (prepared_of accepted.now)) (graph_of (prepared_of accepted.now)) cert.now }
     requires workers { (1 ≤ workers) × (workers ≤ 32) }
     ensures { IfOk result (IsRanksOf (written_by cert.now)) }
 {
-    match check(rt, alloc, accepted, cert, workers) {
+    match check_with(rt, alloc, accepted, cert, workers, gate) {
         Ok(ranks) => Ok(ranks),
         Err(CheckError::Refused(_)) => unreachable!(),
         Err(CheckError::Memory) => Err(AllocError),
@@ -86,11 +88,12 @@ fn build_answer(
 }
 
 // What `ranks` answers to a job.
-fn ranks_answer(
+fn ranks_answer<G: Gate>(
     rt: &(impl Threads + Sync),
     alloc: Global,
     j: &Job,
     workers: u32,
+    gate: &G,
 ) -> Result<Answer, AllocError>
     requires formed { IsWellFormedJob j.now }
     requires workers { (1 ≤ workers) × (workers ≤ 32) }
@@ -99,7 +102,7 @@ fn ranks_answer(
     match accept_job(alloc, j) {
         Ok(accepted) => {
             let cert = built(rt, alloc, &accepted, workers)?;
-            let ranks = checked(rt, alloc, &accepted, &cert, workers)?;
+            let ranks = checked(rt, alloc, &accepted, &cert, workers, gate)?;
             let text = ranks_text(alloc, &ranks)?;
             Ok(made(Status::Done, text))
         }
@@ -112,11 +115,12 @@ fn ranks_answer(
 }
 
 /// What `sample` answers, for the job of a number.
-pub(crate) fn report_sample(
+pub(crate) fn report_sample<G: Gate>(
     rt: &(impl Threads + Sync),
     alloc: Global,
     seed: u32,
     workers: u32,
+    gate: &G,
 ) -> Result<Answer, AllocError>
     requires { (1 ≤ workers) × (workers ≤ 32) }
     ensures { IfOk result (λ a. SampleReport seed (answer_view a).status (answer_view a).text) }
@@ -125,7 +129,7 @@ pub(crate) fn report_sample(
     match accept_job(alloc, &job) {
         Ok(accepted) => {
             let cert = built(rt, alloc, &accepted, workers)?;
-            let ranks = checked(rt, alloc, &accepted, &cert, workers)?;
+            let ranks = checked(rt, alloc, &accepted, &cert, workers, gate)?;
             let text = summary_text(alloc, seed, &accepted, &ranks)?;
             Ok(made(Status::Done, text))
         }
@@ -155,17 +159,18 @@ pub(crate) fn report_build(
 }
 
 /// What `ranks` answers to an input.
-pub(crate) fn report_ranks(
+pub(crate) fn report_ranks<G: Gate>(
     rt: &(impl Threads + Sync),
     alloc: Global,
     input: &[u8],
     workers: u32,
+    gate: &G,
 ) -> Result<Answer, AllocError>
     requires { (1 ≤ workers) × (workers ≤ 32) }
     ensures { IfOk result (λ a. JobTextReport RanksReport input.now (answer_view a).status (answer_view a).text) }
 {
     match read_job(alloc, input) {
-        Ok(job) => ranks_answer(rt, alloc, &job, workers),
+        Ok(job) => ranks_answer(rt, alloc, &job, workers, gate),
         Err(CertError::Text(fault)) => Ok(made(Status::BadText, text_line(alloc, &fault)?)),
         Err(CertError::Memory) => Err(AllocError),
     }

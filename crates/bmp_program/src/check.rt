@@ -10,25 +10,27 @@ use crate::Status;
 use crate::answer::{Answer, made};
 use crate::job_answer::fault_answer;
 use bmp_cert::{Accepted, Cert, CertError, JobError, accept_job, read_cert};
-use bmp_check::{CheckError, check, refusal_line};
+use bmp_check::{CheckError, check_with, refusal_line};
 use bmp_report::{ranks_text, text_line};
+use bmp_par::Gate;
 use std::alloc::{AllocError, Global};
 use std::thread::Threads;
 
 // What the comparisons of a certificate answer whose job is the accepted one.
-fn verdict_on(
+fn verdict_on<G: Gate>(
     rt: &(impl Threads + Sync),
     alloc: Global,
     accepted: &Accepted,
     cert: &Cert,
     workers: u32,
+    gate: &G,
 ) -> Result<Answer, AllocError>
     requires accepted { IsAccepted (graph_of (prepared_of accepted.now)) cert.now }
     requires job { cert.now.job ≡ job_of (prepared_of accepted.now) }
     requires workers { (1 ≤ workers) × (workers ≤ 32) }
     ensures { IfOk result (λ a. CertReport cert.now (answer_view a).status (answer_view a).text) }
 {
-    match check(rt, alloc, accepted, cert, workers) {
+    match check_with(rt, alloc, accepted, cert, workers, gate) {
         Ok(ranks) => {
             let lines = ranks_text(alloc, &ranks)?;
             Ok(made(Status::Done, lines))
@@ -42,18 +44,19 @@ fn verdict_on(
 }
 
 // What the check of a certificate answers.
-fn report_on_cert(
+fn report_on_cert<G: Gate>(
     rt: &(impl Threads + Sync),
     alloc: Global,
     cert: &Cert,
     workers: u32,
+    gate: &G,
 ) -> Result<Answer, AllocError>
     requires formed { IsWellFormed cert.now }
     requires workers { (1 ≤ workers) × (workers ≤ 32) }
     ensures { IfOk result (λ a. CertReport cert.now (answer_view a).status (answer_view a).text) }
 {
     match accept_job(alloc, &cert.job) {
-        Ok(accepted) => verdict_on(rt, alloc, &accepted, cert, workers),
+        Ok(accepted) => verdict_on(rt, alloc, &accepted, cert, workers, gate),
         Err(JobError::Fault(fault)) => {
             let answer = fault_answer(alloc, &cert.job, &fault)?;
             Ok(answer)
@@ -64,11 +67,12 @@ fn report_on_cert(
 
 /// What `check` answers to an input, by so many workers. Once the certificate is read, the bytes of the input are given
 /// back.
-pub(crate) fn report_check(
+pub(crate) fn report_check<G: Gate>(
     rt: &(impl Threads + Sync),
     alloc: Global,
     input: Vec<u8>,
     workers: u32,
+    gate: &G,
 ) -> Result<Answer, AllocError>
     requires { (1 ≤ workers) × (workers ≤ 32) }
     ensures { IfOk result (λ a. CertTextReport input.items (answer_view a).status (answer_view a).text) }
@@ -76,7 +80,7 @@ pub(crate) fn report_check(
     let read = read_cert(alloc, &input);
     drop(input);
     match read {
-        Ok(cert) => report_on_cert(rt, alloc, &cert, workers),
+        Ok(cert) => report_on_cert(rt, alloc, &cert, workers, gate),
         Err(CertError::Text(fault)) => {
             let line = text_line(alloc, &fault)?;
             Ok(made(Status::BadText, line))

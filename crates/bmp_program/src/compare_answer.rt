@@ -17,16 +17,18 @@ use bmp_cert::{Accepted, CertError, Job, JobError, accept_job, read_job};
 use bmp_interval::Interval;
 use bmp_kl::{KlError, KlTable, kl_table};
 use bmp_report::{compare_text, limit_line, text_line};
+use bmp_par::Gate;
 use std::alloc::{AllocError, Global};
 use std::thread::Threads;
 
 // The ranks of a certificate that is built, beside a table of its job's vertices.
-fn compared(
+fn compared<G: Gate>(
     rt: &(impl Threads + Sync),
     alloc: Global,
     accepted: &Accepted,
     table: &KlTable,
     workers: u32,
+    gate: &G,
 ) -> Result<Vec<u8>, AllocError>
     requires formed { IsWellFormedJob (job_of (prepared_of accepted.now)) }
     requires graph { IsJobGraph (job_of (prepared_of accepted.now)) (graph_of (prepared_of accepted.now)) }
@@ -36,18 +38,19 @@ fn compared(
         (graph_of (prepared_of accepted.now)) (coefficient_of table.now) (sum_of table.now) v.items) }
 {
     let cert = built(rt, alloc, accepted, workers)?;
-    let ranks = checked(rt, alloc, accepted, &cert, workers)?;
+    let ranks = checked(rt, alloc, accepted, &cert, workers, gate)?;
     let text = compare_text(alloc, &ranks, table)?;
     Ok(text)
 }
 
 // What is answered to the vertices of an accepted job: the comparison, or the first vertex that passes the limit.
-fn answer_on(
+fn answer_on<G: Gate>(
     rt: &(impl Threads + Sync),
     alloc: Global,
     accepted: &Accepted,
     interval: &Interval,
     workers: u32,
+    gate: &G,
 ) -> Result<Answer, AllocError>
     requires formed { IsWellFormedJob (job_of (prepared_of accepted.now)) }
     requires graph { IsJobGraph (job_of (prepared_of accepted.now)) (graph_of (prepared_of accepted.now)) }
@@ -59,7 +62,7 @@ fn answer_on(
 {
     match kl_table(alloc, interval, TABLE_LIMIT) {
         Ok(table) => {
-            let text = compared(rt, alloc, accepted, &table, workers)?;
+            let text = compared(rt, alloc, accepted, &table, workers, gate)?;
             Ok(made(Status::Done, text))
         }
         Err(KlError::TooBig { x }) => {
@@ -71,11 +74,12 @@ fn answer_on(
 }
 
 // What `compare` answers to a job.
-fn compare_answer(
+fn compare_answer<G: Gate>(
     rt: &(impl Threads + Sync),
     alloc: Global,
     j: &Job,
     workers: u32,
+    gate: &G,
 ) -> Result<Answer, AllocError>
     requires formed { IsWellFormedJob j.now }
     requires workers { (1 ≤ workers) × (workers ≤ 32) }
@@ -83,7 +87,7 @@ fn compare_answer(
 {
     match accept_job(alloc, j) {
         Ok(accepted) => {
-            let answer = answer_on(rt, alloc, &accepted, accepted.interval(), workers)?;
+            let answer = answer_on(rt, alloc, &accepted, accepted.interval(), workers, gate)?;
             Ok(answer)
         }
         Err(JobError::Fault(fault)) => {
@@ -95,17 +99,18 @@ fn compare_answer(
 }
 
 /// What `compare` answers to an input.
-pub(crate) fn report_compare(
+pub(crate) fn report_compare<G: Gate>(
     rt: &(impl Threads + Sync),
     alloc: Global,
     input: &[u8],
     workers: u32,
+    gate: &G,
 ) -> Result<Answer, AllocError>
     requires { (1 ≤ workers) × (workers ≤ 32) }
     ensures { IfOk result (λ a. JobTextReport CompareReport input.now (answer_view a).status (answer_view a).text) }
 {
     match read_job(alloc, input) {
-        Ok(job) => compare_answer(rt, alloc, &job, workers),
+        Ok(job) => compare_answer(rt, alloc, &job, workers, gate),
         Err(CertError::Text(fault)) => Ok(made(Status::BadText, text_line(alloc, &fault)?)),
         Err(CertError::Memory) => Err(AllocError),
     }

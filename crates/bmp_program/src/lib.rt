@@ -13,5 +13,5 @@ mod status;
 mod table_answer;
 mod words;
 
-pub use program::run;
+pub use program::{run, run_with};
 pub use status::Status;

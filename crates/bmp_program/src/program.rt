@@ -12,6 +12,7 @@ use crate::Status;
 use crate::answer::{Answer, bytes_of, fixed};
 use crate::input::{answer_sample, answer_to};
 use crate::words::{WordsError, read_words, reads_input};
+use bmp_par::{Gate, OpenGate};
 use bmp_ports::{Sink, Source, WriteError, write_all};
 use std::alloc::Global;
 use std::thread::Threads;
@@ -19,11 +20,12 @@ use std::thread::Threads;
 // What the words and the input are answered with.
 #[tactic(auto, using(crate::proofs::ReportLemmas::input_decided, crate::proofs::ReportLemmas::sample_decided,
     crate::proofs::ReportLemmas::reads_nothing))]
-fn decide<S: Source>(
+fn decide<S: Source, G: Gate>(
     rt: &(impl Threads + Sync),
     alloc: Global,
     words: &[String],
     source: &mut S,
+    gate: &G,
 ) -> Answer
     ensures answer { IsDecided (IsReport (map string_bytes words.now)) (S.left source.old)
         (Rose (S.faults source.old) (S.faults source.new)) (answer_view result) }
@@ -38,9 +40,9 @@ fn decide<S: Source>(
         Err(WordsError::Memory) => return fixed(Status::NoMemory, b"no memory\n"),
     };
     if reads_input(request.command) {
-        answer_to(rt, alloc, request, source)
+        answer_to(rt, alloc, request, source, gate)
     } else {
-        answer_sample(rt, alloc, request)
+        answer_sample(rt, alloc, request, gate)
     }
 }
 
@@ -91,7 +93,42 @@ pub fn run<S: Source, K: Sink>(
     ensures certified { asked (map string_bytes words.now) ≡ Some Check → result ≡ Status.Done →
         IsCertified (S.left source.old) (K.taken sink.old) (K.taken sink.new) }
 {
-    let answer = decide(rt, alloc, words, source);
+    run_with(rt, alloc, words, source, sink, &OpenGate)
+}
+
+/// The same with a gate, which each worker passes before its part of a check.
+pub fn run_with<S: Source, K: Sink, G: Gate>(
+    rt: &(impl Threads + Sync),
+    alloc: Global,
+    words: &[String],
+    source: &mut S,
+    sink: &mut K,
+    gate: &G,
+) -> Status
+    ensures reported { IsReported result →
+        WritesReport (IsReport (map string_bytes words.now)) (S.left source.old)
+        (K.taken sink.old) (K.taken sink.new) result }
+    ensures read_fault { result ≡ Status.ReadFault → Rose (S.faults source.old) (S.faults source.new) }
+    ensures read_fault_line { result ≡ Status.ReadFault → Takes (K.taken sink.old) (K.taken sink.new) read_fault_line }
+    ensures write_fault { result ≡ Status.WriteFault → Rose (K.faults sink.old) (K.faults sink.new) }
+    ensures write_fault_prefix { result ≡ Status.WriteFault →
+        WritesPrefix (IsReport (map string_bytes words.now)) (S.left source.old)
+        (Rose (S.faults source.old) (S.faults source.new))
+        (K.taken sink.old) (K.taken sink.new) (λ s. s ≢ Status.NoMemory) }
+    ensures no_memory_prefix { result ≡ Status.NoMemory →
+        WritesPrefix (IsReport (map string_bytes words.now)) (S.left source.old)
+        (Rose (S.faults source.old) (S.faults source.new))
+        (K.taken sink.old) (K.taken sink.new) (λ _. ⊤) }
+    ensures unread { asked (map string_bytes words.now) ≡ None → source.new ≡ source.old }
+    ensures sample { asked (map string_bytes words.now) ≡ Some Sample → source.new ≡ source.old }
+    ensures end { asked (map string_bytes words.now) ≢ Some Sample → result ≡ Status.Done →
+        IsAtEnd (S.left source.new) }
+    ensures passed { asked (map string_bytes words.now) ≡ Some Check → result ≡ Status.Done →
+        HasPassed (S.left source.old) }
+    ensures certified { asked (map string_bytes words.now) ≡ Some Check → result ≡ Status.Done →
+        IsCertified (S.left source.old) (K.taken sink.old) (K.taken sink.new) }
+{
+    let answer = decide(rt, alloc, words, source, gate);
     match write_all(sink, bytes_of(&answer)) {
         Ok(()) => answer.status,
         Err(WriteError::Failed) if answer.status != Status::NoMemory => Status::WriteFault,

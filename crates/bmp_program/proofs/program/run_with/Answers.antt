@@ -2,7 +2,7 @@ use Rattle.std.proofs.Common.{ℕ, List, map, string_bytes, subst}
 use Rattle.bmp_ports.specs.Ports.{Rose, Takes}
 use Rattle.bmp_program.specs.Runs.{answer_view}
 use Rattle.bmp_program.proofs.HeadlineLemmas.{headline, has_passed}
-use Rattle.bmp_program.proofs.program.run.Goals as goal
+use Rattle.bmp_program.proofs.program.run_with.Goals as goal
 
 pub returns-in-Ok-clause-certified : goal.returns-in-Ok-clause-certified
 returns-in-Ok-clause-certified g c = λ asks done.
