@@ -16,7 +16,7 @@ import tempfile
 from pathlib import Path
 
 TOP = Path(__file__).resolve().parent.parent
-COMMANDS = {"output": "check"} | {f"`{name}`": name for name in ("check", "gkm", "graph", "kl", "compare")}
+COMMANDS = {"output": "check"} | {f"`{name}`": name for name in ("check", "gkm", "graph", "kl", "ranks", "compare")}
 
 
 def transcript(text):
@@ -64,7 +64,8 @@ def check_transcript(program, faults):
 
 def check_tables(program, faults):
     shown = set()
-    for row in rows((TOP / "examples" / "README.md").read_text()):
+    tables = rows((TOP / "examples" / "README.md").read_text())
+    for row in (row for row in tables if "file" in row):
         files = re.findall(r"`([^`]*)`", row["file"])
         for name in files:
             shown.add(name)
@@ -77,7 +78,8 @@ def check_tables(program, faults):
                 given = run.stdout.decode().splitlines()
                 same = given[: len(lines)] == lines and len(given) == len(lines) + more
                 if not same or run.returncode != status:
-                    faults.append(f"{name}: {command}\n  wants {lines} and {more} more, {status}\n  gives {given}, {run.returncode}")
+                    wants = f"wants {lines} and {more} more, {status}"
+                    faults.append(f"{name}: {command}\n  {wants}\n  gives {given}, {run.returncode}")
     for path in sorted((TOP / "examples").glob("*.[cj]*")):
         if path.name not in shown:
             faults.append(f"{path.name}: in no table of examples/README.md")
