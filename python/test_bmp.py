@@ -117,7 +117,6 @@ class Texts(unittest.TestCase):
         edges = [{"lower": 0, "upper": 1, "label": [1]}]
         self.assertEqual(bmp.read_graph(text), {"vertices": vertices, "edges": edges})
 
-
     def test_tables(self):
         answer = bmp.read_kl("kl 0 1:1\nkl 1 0:1\nself-dual yes\n")
         self.assertEqual(answer, {"table": [{1: 1}, {0: 1}], "self_dual": True})
