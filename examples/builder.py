@@ -202,7 +202,7 @@ class Echelon:
 class Builder:
     """degrees[x]: the generator degrees; lifts[e][g]: the lift of generator g of the lower end, an element of the
     upper stalk. An element is a vector whose places are pairs (generator, monomial). A tuple is a dictionary from
-    vertices to elements; family[d] has the members of degree d, and known[d] how many there are over longer vertices."""
+    vertices to elements; family[d] has the members of degree d, known[d] tells how many are over longer vertices."""
 
     def __init__(self, job, by_levels):
         self.job, self.graph, self.by_levels = job, Graph(job), by_levels
