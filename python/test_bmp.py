@@ -205,6 +205,14 @@ class Runs(unittest.TestCase):
         self.assertEqual(answer["differing"], differing)
         self.assertEqual(bmp.compare((EXAMPLES / "b2-modulo-2.job").read_text())["edges"], [0, 3])
 
+    def test_listing(self):
+        lines = bmp.listing((EXAMPLES / "d4-1342134-p2-d2.job").read_text())
+        self.assertEqual((len(lines), lines[0].split()), (73, ["vertex", "word", "ranks", "P"]))
+        self.assertEqual(lines[1].split(), ["0", "e", "1", "2", "1", "1", "2", "*"])
+        self.assertEqual(lines[5].split(), ["4", "2", "1", "0", "0", "1"])
+        self.assertEqual(sum(line.endswith("*") for line in lines), 8)
+        self.assertEqual(bmp.listing((EXAMPLES / "infinite.job").read_text()), ["job finite pairs 18 19"])
+
     def test_tabulate(self):
         with tempfile.TemporaryDirectory() as folder:
             path = Path(folder) / "a2"
