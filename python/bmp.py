@@ -522,8 +522,9 @@ def main(words):
         tabulate(words[1][0], int(words[1][1:]), int(words[2]), int(words[3]), words[4])
         return 0
     if words[:1] == ["list"] and len(words) == 2:
-        print("\n".join(listing(Path(words[1]).read_text("ascii"))))
-        return 0
+        lines = listing(Path(words[1]).read_text("ascii"))
+        print("\n".join(lines))
+        return 0 if lines[0].startswith("vertex ") else 1
     if len(words) not in (1, 2) or words[0] in ("table", "list"):
         print(main.__doc__, file=sys.stderr)
         return 64
