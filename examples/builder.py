@@ -1,6 +1,7 @@
-"""A builder of certificates of version 1, to read beside the documents.
+"""A builder of certificates of every version, to read beside the documents.
 
-    python3 examples/builder.py < JOB > CERTIFICATE
+    python3 examples/builder.py < JOB > CERTIFICATE              version 1; version 3 for a job with a lattice
+    python3 examples/builder.py levels < JOB > CERTIFICATE       version 2; version 3 for a job with a lattice
     python3 examples/builder.py VERTEX DEGREE < JOB
 
 It reads a job text and writes a certificate that `bmp check` accepts; with a vertex and a degree it lists what the
@@ -22,8 +23,10 @@ import sys
 class Job:
     def __init__(self, text):
         lines = [line.split(" ") for line in text.splitlines()]
-        assert lines[0] == ["bmp-job", "1"] and lines[-1] == ["end"], "not a job text"
+        assert lines[0] in (["bmp-job", "1"], ["bmp-job", "2"]) and lines[-1] == ["end"], "not a job text"
+        self.is_plain = lines[0][1] == "1"
         self.text = "\n".join(text.splitlines()[1:-1])
+        self.by_weights = not self.is_plain and lines.pop(1) == ["lattice", "1"]
         numbers = [[int(word) for word in line[1:]] for line in lines]
         self.rank = numbers[1][0]
         self.cartan = numbers[2 : 2 + self.rank]
@@ -76,6 +79,11 @@ def length(element, positive):
 # ---- the moment graph (docs/CONVENTIONS.md, "Vertices and edges")
 
 
+def weights(cartan, root):
+    """A root's coordinates by the fundamental weights: the values of the simple coroots on it."""
+    return [sum(a * b for a, b in zip(row, root)) for row in cartan]
+
+
 class Graph:
     """vertices: matrices; edges: (lower, upper, label); up[x]: the numbers of the edges going up from x;
     above[x]: the vertices above x, rising."""
@@ -96,7 +104,8 @@ class Graph:
             for root, coroot in positive:
                 y = number.get(product(reflection(job.cartan, root, coroot), element))
                 if y is not None and self.lengths[x] < self.lengths[y]:
-                    self.edges.append((x, y, tuple(b % job.prime for b in root)))
+                    form = weights(job.cartan, root) if job.by_weights else root
+                    self.edges.append((x, y, tuple(b % job.prime for b in form)))
         self.edges.sort(key=lambda edge: edge[:2])
         count = len(self.vertices)
         self.up = [[e for e, edge in enumerate(self.edges) if edge[0] == x] for x in range(count)]
@@ -164,10 +173,11 @@ class Echelon:
         return row, combination
 
     def insert(self, row, combination):
-        """Takes a row in; tells whether it was no combination of those before."""
+        """Takes a row in where it is no combination of those before, and gives None; else gives the combination of
+        rows taken in and this one that is 0."""
         row, combination = self.reduce(row, combination)
         if not row:
-            return False
+            return combination
         pivot = min(row)
         inverse = pow(row[pivot], -1, self.prime)
         new = {}, {}
@@ -179,23 +189,32 @@ class Echelon:
                 add_multiple(other_row, factor, new[0], self.prime)
                 add_multiple(other_combination, factor, new[1], self.prime)
         self.rows[pivot] = new
-        return True
+        return None
+
+    def form(self, number):
+        """The linear form that is 1 on the row taken in under this number and 0 on all others taken in."""
+        return {pivot: combination[number] for pivot, (_, combination) in self.rows.items() if number in combination}
 
 
-# ---- the sheaf, from the greatest vertex down
+# ---- the sheaf, from the greatest vertex down (docs/FORMATS.md, "How a builder goes")
 
 
 class Builder:
     """degrees[x]: the generator degrees; lifts[e][g]: the lift of generator g of the lower end, an element of the
-    upper stalk. An element is a vector whose places are pairs (generator, monomial)."""
+    upper stalk. An element is a vector whose places are pairs (generator, monomial). A tuple is a dictionary from
+    vertices to elements; family[d] has the members of degree d, known[d] tells how many are over longer vertices."""
 
-    def __init__(self, job):
-        self.job, self.graph = job, Graph(job)
+    def __init__(self, job, by_levels):
+        self.job, self.graph, self.by_levels = job, Graph(job), by_levels
         top = len(self.graph.vertices) - 1
         self.degrees = {top: [0]}
         self.lifts = {}
-        self.lines = ["bmp-cert 1", job.text, f"vertices {top + 1}", f"vertex {top} 1 0"]
+        self.family = [[{top: {s: 1}} for s in self.stalk(top, d)] for d in range(job.degree + 1)]
+        version = 3 if not job.is_plain else 2 if by_levels else 1
+        self.lines = [f"bmp-cert {version}", job.text, f"vertices {top + 1}", f"vertex {top} 1 0"]
         for x in reversed(range(top)):
+            if self.graph.lengths[x] < self.graph.lengths[x + 1]:
+                self.known = [len(members) for members in self.family]
             self.build_vertex(x)
         self.lines.append("end")
 
@@ -275,49 +294,75 @@ class Builder:
                     self.push_vector(keyword, vector)
 
     def build_block(self, x, degree):
-        """Finds the generators of x of this degree, and the evidence."""
-        prime = self.job.prime
-        positions, rows = self.equations(x, degree)
-        solved = Echelon(prime)
-        for i, row in enumerate(rows):
-            solved.insert(row, {i: 1})
-        pivots = sorted(solved.rows)
-        tuples = []  # one for each free position: 1 there, 0 at the other free positions
-        for free in range(len(positions)):
-            if free not in solved.rows:
-                column = {p: -solved.rows[p][0][free] % prime for p in pivots if free in solved.rows[p][0]}
-                tuples.append({free: 1, **column})
-
-        # boundaries of what there is already, by stalk coordinates
-        spanned = Echelon(prime)
-        for i, s in enumerate(self.stalk(x, degree)):
-            spanned.insert(self.boundary(x, degree, lambda e: self.lift_of(e, s)), {i: 1})
-        sources, new = [], []
-        boundaries = []
-        for j, t in enumerate(tuples):
+        """Finds the generators of x of this degree, and the lines of the block."""
+        if self.by_levels:
+            return self.level_block(x, degree)
+        positions, tuples, pivots, rows = self.sections(x, degree)
+        values = []
+        for t in tuples:
             value = {y: {} for y in self.graph.above[x]}
             for position, v in t.items():
                 y, g, m = positions[position]
                 value[y][(g, m)] = v
-            bound = self.boundary(x, degree, lambda e: value[self.graph.edges[e][1]])
-            boundaries.append(bound)
+            values.append(value)
+        covers, sources, duals, _, _ = self.covers(x, degree, values)
+        head = f"block {degree} {len(pivots)} {len(tuples)}\n" + " ".join(map(str, ["pivots", *pivots]))
+        return head, [("tuple", tuples), ("row", rows), ("cover", covers), ("source", sources), ("dual", duals)]
+
+    def sections(self, x, degree):
+        """The positions; a section for each free position, 1 there and 0 at the other free positions; the pivots, and
+        for each the combination of equations that is 1 there and 0 at the other pivots."""
+        positions, rows = self.equations(x, degree)
+        solved = Echelon(self.job.prime)
+        for i, row in enumerate(rows):
+            solved.insert(row, {i: 1})
+        pivots = sorted(solved.rows)
+        tuples = []
+        for free in range(len(positions)):
+            if free not in solved.rows:
+                rows_there = [(p, solved.rows[p][0]) for p in pivots if free in solved.rows[p][0]]
+                tuples.append({free: 1, **{p: -row[free] % self.job.prime for p, row in rows_there}})
+        return positions, tuples, pivots, [solved.rows[p][1] for p in pivots]
+
+    def covers(self, x, degree, values):
+        """Covers of the tuples with the given values, by as many new generators as they need, whose sources and dual
+        forms come behind; then the combinations of stalk coordinates whose boundary is 0, by free coordinate, and the
+        echelon form of the boundaries of the other coordinates."""
+        kernel, spanned = {}, Echelon(self.job.prime)
+        for i, s in enumerate(self.stalk(x, degree)):
+            zero = spanned.insert(self.boundary(x, degree, lambda e: self.lift_of(e, s)), {i: 1})
+            if zero is not None:
+                kernel[i] = zero
+        boundaries = [self.boundary(x, degree, lambda e: value.get(self.graph.edges[e][1], {})) for value in values]
+        sources, new = [], []
+        for j, value in enumerate(values):
             number = len(self.stalk(x, degree))
-            if spanned.insert(bound, {number: 1}):  # no element has this boundary yet: a generator
+            if spanned.insert(boundaries[j], {number: 1}) is None:  # no element had this boundary: a generator
                 self.degrees[x].append(degree)
                 for e in self.graph.up[x]:
-                    self.lifts[e].append(value[self.graph.edges[e][1]])
+                    self.lifts[e].append(value.get(self.graph.edges[e][1], {}))
                 sources.append({j: 1})
                 new.append(number)
         covers = []
         for bound in boundaries:
             left, combination = spanned.reduce(bound, {})
             assert not left
-            covers.append({place: -v % prime for place, v in combination.items()})
-        duals = [{p: c[number] for p, (_, c) in spanned.rows.items() if number in c} for number in new]
+            covers.append({place: -v % self.job.prime for place, v in combination.items()})
+        return covers, sources, [spanned.form(number) for number in new], kernel, spanned
 
-        head = f"block {degree} {len(pivots)} {len(tuples)}\n" + " ".join(map(str, ["pivots", *pivots]))
-        evidence = [("tuple", tuples), ("row", [solved.rows[p][1] for p in pivots])]
-        return head, evidence + [("cover", covers), ("source", sources), ("dual", duals)]
+    def level_block(self, x, degree):
+        """The block by levels; the members go on to x by their covers, and the kernel's vectors are new members."""
+        members = self.family[degree][: self.known[degree]]
+        covers, sources, duals, kernel, spanned = self.covers(x, degree, members)
+        stalk = self.stalk(x, degree)
+        pivots = [i for i in range(len(stalk)) if i not in kernel]
+        basis = [kernel[i] for i in sorted(kernel)]
+        for member, cover in zip(members, covers):
+            member[x] = {stalk[place]: v for place, v in cover.items()}
+        self.family[degree] += [{x: {stalk[place]: v for place, v in vector.items()}} for vector in basis]
+        head = f"block {degree} {len(members)} {len(pivots)} {len(basis)}\n" + " ".join(map(str, ["pivots", *pivots]))
+        evidence = [("cover", covers), ("source", sources), ("dual", duals), ("basis", basis)]
+        return head, evidence + [("row", [spanned.form(i) for i in pivots])]
 
     def push_vector(self, keyword, vector):
         """A vector: how many entries, and then place and value of each, the places rising."""
@@ -352,8 +397,9 @@ def listing(builder, x, degree):
 
 
 def main(words):
-    builder = Builder(Job(sys.stdin.read()))
-    lines = listing(builder, *map(int, words)) if words else builder.lines
+    job = Job(sys.stdin.read())
+    builder = Builder(job, by_levels=words == ["levels"] or not job.is_plain)
+    lines = listing(builder, *map(int, words)) if len(words) == 2 else builder.lines
     print("\n".join(lines))
 
 

@@ -8,6 +8,7 @@ program judges as it stands; what `check` says with status 0 is said of the job 
     check, build, ranks, compare, graph, gkm, kl             the program run on a text; plain dictionaries
     read_ranks, read_compare, read_graph, read_kl, read_fault    what it prints, as plain dictionaries
     polynomials, differing                                   a table's polynomials, and where ranks differ from them
+    listing                                                  the ranks of a job by reduced words, beside the polynomials
     elements, tabulate                                       all elements of a type, and their ranks in a file
     draw                                                     a moment graph as SVG
 
@@ -24,7 +25,8 @@ from pathlib import Path
 __all__ = [
     "cartan_matrix", "longest_word", "reduced_word", "is_reduced", "element", "elements", "right_descents",
     "job_text", "job_of", "check", "build", "ranks", "compare", "graph", "gkm", "kl", "run", "find_program",
-    "read_ranks", "read_compare", "read_graph", "read_kl", "read_fault", "polynomials", "differing", "tabulate", "draw",
+    "read_ranks", "read_compare", "read_graph", "read_kl", "read_fault", "polynomials", "differing", "listing",
+    "tabulate", "draw",
 ]  # fmt: skip
 
 
@@ -327,6 +329,23 @@ def differing(ranks, polynomials):
     return [x for x, (counts, numbers) in enumerate(pairs) if counts != coefficients(numbers, counts)]
 
 
+def listing(job, program=None):
+    """The ranks of a job text beside its Kazhdan-Lusztig polynomials, a line for each vertex: its number, its reduced
+    word, the counts, the coefficients of P_{x,w} from degree 0 on, and a star where they differ in a degree up to D.
+    Where the job is refused it is the line that says so."""
+    answers = [call(job, program) for call in (ranks, kl, graph)]
+    for answer in answers:
+        if answer["status"] != 0:
+            return [answer["line"]]
+    counts, of = answers[0]["ranks"], polynomials(answers[1]["table"], answers[2])
+    words = ["".join(map(str, vertex["word"])) or "e" for vertex in answers[2]["vertices"]]
+    different = set(differing(counts, of))
+    columns = [[str(x), word, *(" ".join(map(str, n)) for n in (counts[x], of[x]))] for x, word in enumerate(words)]
+    wide = [max(map(len, column)) for column in zip(["vertex", "word", "ranks", "P"], *columns)]
+    lines = [["vertex", "word", "ranks", "P", ""]] + [[*row, "*" * (x in different)] for x, row in enumerate(columns)]
+    return ["  ".join(cell.ljust(width) for cell, width in zip(line, [*wide, 0])).rstrip() for line in lines]
+
+
 # ---- tables of all elements
 
 
@@ -495,13 +514,18 @@ def draw(graph, ranks=None, marked=(), edge_texts=None):
 
 def main(words):
     """python3 -m bmp JOB [CERTIFICATE] > PICTURE       the moment graph of a job; with the ranks of a certificate of it
+    python3 -m bmp list JOB                          the ranks of a job by reduced words, beside the polynomials
     python3 -m bmp table TYPE PRIME DEGREE FILE      the ranks of all elements of a type, such as A3, in a file
 
     In a picture with ranks, the vertices are marked at which they differ from the Kazhdan-Lusztig coefficients."""
     if words[:1] == ["table"] and len(words) == 5:
         tabulate(words[1][0], int(words[1][1:]), int(words[2]), int(words[3]), words[4])
         return 0
-    if len(words) not in (1, 2) or words[0] == "table":
+    if words[:1] == ["list"] and len(words) == 2:
+        lines = listing(Path(words[1]).read_text("ascii"))
+        print("\n".join(lines))
+        return 0 if lines[0].startswith("vertex ") else 1
+    if len(words) not in (1, 2) or words[0] in ("table", "list"):
         print(main.__doc__, file=sys.stderr)
         return 64
     job = Path(words[0]).read_text("ascii")

@@ -117,7 +117,6 @@ class Texts(unittest.TestCase):
         edges = [{"lower": 0, "upper": 1, "label": [1]}]
         self.assertEqual(bmp.read_graph(text), {"vertices": vertices, "edges": edges})
 
-
     def test_tables(self):
         answer = bmp.read_kl("kl 0 1:1\nkl 1 0:1\nself-dual yes\n")
         self.assertEqual(answer, {"table": [{1: 1}, {0: 1}], "self_dual": True})
@@ -205,6 +204,14 @@ class Runs(unittest.TestCase):
         self.assertEqual((answer["status"], answer["self_dual"], answer["agree"]), (0, True, 64))
         self.assertEqual(answer["differing"], differing)
         self.assertEqual(bmp.compare((EXAMPLES / "b2-modulo-2.job").read_text())["edges"], [0, 3])
+
+    def test_listing(self):
+        lines = bmp.listing((EXAMPLES / "d4-1342134-p2-d2.job").read_text())
+        self.assertEqual((len(lines), lines[0].split()), (73, ["vertex", "word", "ranks", "P"]))
+        self.assertEqual(lines[1].split(), ["0", "e", "1", "2", "1", "1", "2", "*"])
+        self.assertEqual(lines[5].split(), ["4", "2", "1", "0", "0", "1"])
+        self.assertEqual(sum(line.endswith("*") for line in lines), 8)
+        self.assertEqual(bmp.listing((EXAMPLES / "infinite.job").read_text()), ["job finite pairs 18 19"])
 
     def test_tabulate(self):
         with tempfile.TemporaryDirectory() as folder:

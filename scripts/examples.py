@@ -3,8 +3,10 @@
 
 The transcript of README.md: each line `$ bmp ..` is run by a shell at the top of the repository, and must print the
 lines below it. The tables of examples/README.md: the columns of a command give the lines that it prints for the file
-of the row, each in backticks, then `and N more` where so many follow, and `status S` where that isn't 0. Prints
-nothing where all agrees, and else each difference, with status 1.
+of the row, each in backticks, then `and N more` where so many follow, and `status S` where that isn't 0. The pieces of
+certificates that docs/FORMATS.md and docs/SHEAVES.md write out: each stands in the certificate that was named last
+above it, once what is behind two spaces is taken away from each line. Prints nothing where all agrees, and else each
+difference, with status 1.
 
 Usage: scripts/examples.py [PROGRAM]   (crates/bmp/out/bmp, as `rt run` and `rt ci` leave it)
 """
@@ -16,7 +18,7 @@ import tempfile
 from pathlib import Path
 
 TOP = Path(__file__).resolve().parent.parent
-COMMANDS = {"output": "check"} | {f"`{name}`": name for name in ("check", "gkm", "graph", "kl", "compare")}
+COMMANDS = {"output": "check"} | {f"`{name}`": name for name in ("check", "gkm", "graph", "kl", "ranks", "compare")}
 
 
 def transcript(text):
@@ -51,6 +53,27 @@ def expected(cell, status):
     return lines, int(more.group(1)) if more else 0, int(own.group(1)) if own else status
 
 
+def pieces(text):
+    """Each piece of a certificate with the file that was named last above it."""
+    named, piece = None, []
+    for line in text.splitlines() + [""]:
+        if re.match(r"    (?:bmp-cert|block|vertices) ", line) or (piece and re.match(r"    \S", line)):
+            piece.append(re.split(r"  ", line[4:])[0])
+            continue
+        if piece:
+            yield named, piece
+            piece = []
+        named = (re.findall(r"examples/([\w-]+\.cert)", line) or [named])[-1]
+
+
+def check_pieces(faults):
+    for page in ("docs/FORMATS.md", "docs/SHEAVES.md"):
+        for name, piece in pieces((TOP / page).read_text()):
+            text = (TOP / "examples" / name).read_text()
+            if "\n" + "\n".join(piece) + "\n" not in "\n" + text:
+                faults.append(f"{page}: not in {name}: {piece}")
+
+
 def check_transcript(program, faults):
     with tempfile.TemporaryDirectory() as folder:
         (Path(folder) / "bmp").symlink_to(program)
@@ -64,7 +87,8 @@ def check_transcript(program, faults):
 
 def check_tables(program, faults):
     shown = set()
-    for row in rows((TOP / "examples" / "README.md").read_text()):
+    tables = rows((TOP / "examples" / "README.md").read_text())
+    for row in (row for row in tables if "file" in row):
         files = re.findall(r"`([^`]*)`", row["file"])
         for name in files:
             shown.add(name)
@@ -77,7 +101,8 @@ def check_tables(program, faults):
                 given = run.stdout.decode().splitlines()
                 same = given[: len(lines)] == lines and len(given) == len(lines) + more
                 if not same or run.returncode != status:
-                    faults.append(f"{name}: {command}\n  wants {lines} and {more} more, {status}\n  gives {given}, {run.returncode}")
+                    wants = f"wants {lines} and {more} more, {status}"
+                    faults.append(f"{name}: {command}\n  {wants}\n  gives {given}, {run.returncode}")
     for path in sorted((TOP / "examples").glob("*.[cj]*")):
         if path.name not in shown:
             faults.append(f"{path.name}: in no table of examples/README.md")
@@ -88,6 +113,7 @@ def main():
     faults = []
     check_transcript(program, faults)
     check_tables(program, faults)
+    check_pieces(faults)
     print("".join(fault + "\n" for fault in faults), end="", file=sys.stderr)
     return 1 if faults else 0
 

@@ -3,7 +3,7 @@
 
 Usage: docs/pictures/draw.py     (needs the built program, as python/bmp.py finds it)
 
-The others, pipeline.svg and block.svg, are written by hand.
+The others, pipeline.svg, block.svg and block-levels.svg, are written by hand.
 """
 
 import sys
