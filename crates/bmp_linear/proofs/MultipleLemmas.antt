@@ -81,7 +81,6 @@ module _ (n p : ℕ) (old mid : Matrix) (from : ℕ) (c : ℕ → ℕ) (h : AreM
         | inr late ↦ rw (h.others i j (omega arith) row column) (numbers i j row column)
       ]
 
-
 reduced_term : (p a b : ℕ) → (a + b % p) % p ≡ (a + b) % p
 reduced_term p a b = same_add p a a (b % p) b refl (mod-mod b p)
 
@@ -182,7 +181,7 @@ module _ (p : ℕ) (r : RowRun) (old : List ℕ) (h : IsRowRun p r old) where
           elim out [ inl before ↦ inl (omega arith) | inr past ↦ inr (omega arith) ] in
           let none : c * get_or old (r.row * r.cols + j) 0 ≡ c * 0 = ap (λ x. c * x) (h.zero j b out) in
           let whole : get_or old (i * r.cols + j) 0
-              ≡ get_or old (i * r.cols + j) 0 + c * get_or old (r.row * r.cols + j) 0 = omega arith in
+          ≡ get_or old (i * r.cols + j) 0 + c * get_or old (r.row * r.cols + j) 0 = omega arith in
           others (i * r.cols + j) place ∙ sym (mod-eq_of_lt (h.below i j row b)) ∙ ap (λ x. x % p) whole
 
   -- by the table of the multiples: the list is the multiple by c

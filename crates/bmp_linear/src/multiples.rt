@@ -156,13 +156,7 @@ fn add_by_table<F: Field>(f: &F, numbers: &mut [u8], run: RowRun, i: usize, c: u
 }
 
 /// The same of each row and its factor.
-fn add_all_by_table<F: Field>(
-    f: &F,
-    numbers: &mut [u8],
-    run: RowRun,
-    factors: &[u8],
-    table: &[u8],
-)
+fn add_all_by_table<F: Field>(f: &F, numbers: &mut [u8], run: RowRun, factors: &[u8], table: &[u8])
     requires run { IsRowRun (F.size f.now) run numbers.old }
     requires rows { length factors.now ≡ run.rows }
     requires factors { AreBelow (F.size f.now) factors.now }
