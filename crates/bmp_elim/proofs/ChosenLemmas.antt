@@ -1,14 +1,9 @@
 -- The chosen rows, reduced to the end: a change after a trace, and the first columns of the trace.
-use Rattle.std.proofs.Common.{◌≡◌, ℕ, ◌+◌, ◌*◌, ◌%◌, ◌<◌, ◌≤◌, List, length, get_or, inl, inr, refl, sym, ap, ◌∙◌, arith}
-use Rattle.std.proofs.Math.Nat.{mod-eq_of_lt, mod-mod}
-use Rattle.std.proofs.lemmas.Bool.{cases_eq}
-use Rattle.bmp_math.specs.Vectors.{SameVector}
-use Rattle.bmp_math.specs.Matrices.{Matrix, SameMatrix, NumbersBelow, combination, image, IsInKernel}
+use Rattle.std.proofs.Common.{ℕ, ◌*◌, ◌%◌, ◌<◌, List, length, refl, sym, ap, ◌∙◌}
+use Rattle.bmp_math.specs.Matrices.{Matrix, SameMatrix, combination, image, IsInKernel}
 use Rattle.bmp_math.proofs.CongruenceLemmas.{same_mul}
-use Rattle.bmp_math.proofs.SumLemmas.{sum_below_same, sum_same_mod}
+use Rattle.bmp_math.proofs.SumLemmas.{sum_same_mod}
 use Rattle.bmp_math.proofs.MatrixLemmas.{combination-combination}
-use Rattle.bmp_linear.specs.RowChanges.{IsRowPushed}
-use Rattle.bmp_linear.proofs.StoredLemmas.{HasFirstRows}
 use Rattle.bmp_elim.specs.Traces.{IsTrace, AreChangedAlike}
 use Rattle.bmp_elim.specs.Steps.{IsEliminated}
 use Rattle.bmp_elim.specs.Eliminations.{IsReducedOf}

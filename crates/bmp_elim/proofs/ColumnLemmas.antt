@@ -5,7 +5,7 @@ use Rattle.std.proofs.Math.Nat.{mod-eq_of_lt}
 use Rattle.std.proofs.lemmas.Bool.{cases_eq}
 use Rattle.std.proofs.lemmas.List.{get_or_push, get_or_append_left}
 use Rattle.bmp_math.specs.Matrices.{Matrix, NumbersBelow}
-use Rattle.bmp_linear.specs.RowChanges.{IsRowAdded, IsRowMultiplied, AreRowsExchanged}
+use Rattle.bmp_linear.specs.RowChanges.{IsRowAdded, IsRowMultiplied, AreRowsExchanged, AreMultiplesAdded}
 use Rattle.bmp_elim.specs.Echelons.{IsReducedBelow}
 
 module _ (n : ℕ) (a new : Matrix) (count : ℕ) (pivot : ℕ → ℕ) (h : IsReducedBelow n a count pivot) where
@@ -40,6 +40,18 @@ module _ (n : ℕ) (a new : Matrix) (count : ℕ) (pivot : ℕ → ℕ) (h : IsR
             ∙ ap (λ k. (a.entry k j + c * a.entry from j) % p) (sym same) ∙ ap (λ z. z % p) whole
             ∙ mod-eq_of_lt (numbers i j l column)
         | inr other ↦ added.others i j l column other
+      ])
+
+  pub reduced_spread : (p from : ℕ) (c : ℕ → ℕ) → n ≤ a.cols → NumbersBelow p a → count ≤ from → from < a.rows →
+      AreMultiplesAdded p a new from c → IsReducedBelow n new count pivot
+  reduced_spread p from c narrow numbers late below added = reduced_same added.rows (λ i j l b.
+      let column : j < a.cols = omega arith in
+      elim (cases_eq i from) [
+        | inl same ↦ ap (λ k. new.entry k j) same ∙ added.kept j column ∙ ap (λ k. a.entry k j) (sym same)
+        | inr other ↦
+            let none : c i * a.entry from j ≡ c i * 0 = ap (λ z. c i * z) (h.zero_after from j late below b) in
+            let whole : a.entry i j + c i * a.entry from j ≡ a.entry i j = omega arith in
+            added.added i j l column other ∙ ap (λ z. z % p) whole ∙ mod-eq_of_lt (numbers i j l column)
       ])
 
   pub reduced_multiplied : (p row c : ℕ) → 0 < p → n ≤ a.cols → count ≤ row → row < a.rows →

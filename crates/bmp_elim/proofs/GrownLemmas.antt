@@ -1,15 +1,13 @@
 -- A basis with a row more: the row is a combination of the reduced ones, or it is chosen.
-use Rattle.std.proofs.Common.{◌≡◌, ◌≢◌, ℕ, zero, suc, ◌+◌, ◌-◌, ◌*◌, ◌%◌, ◌<◌, ◌≤◌, List, [], ◌∷◌, ◌++◌, length, get_or, inl, inr, refl, sym, ap, ap₂, ◌∙◌, subst, cond, eqb, eq-eqb, ne_eqb, arith}
-use Rattle.std.specs.List.Sorted.{IsStrictlyIncreasing}
-use Rattle.std.specs.List.{All}
+use Rattle.std.proofs.Common.{◌≡◌, ℕ, zero, suc, ◌+◌, ◌-◌, ◌*◌, ◌%◌, ◌<◌, ◌≤◌, List, [], ◌∷◌, ◌++◌, length, get_or, inl, inr, refl, sym, ap, ap₂, ◌∙◌, subst, cond, eqb, eq-eqb, ne_eqb, arith}
 use Rattle.std.proofs.Math.Nat.{mod-eq_of_lt, zero-mod, mod-mod, mod-lt}
 use Rattle.std.proofs.lemmas.Bool.{cases_eq, cases_lt, cond-true, cond-false}
 use Rattle.std.proofs.lemmas.List.{get_or_push, get_or_append_left, length-append}
 use Rattle.std.proofs.lemmas.List.Elements.{All-push}
 use Rattle.bmp_math.specs.Sums.{sum_below}
 use Rattle.bmp_math.specs.Congruences.{SameMod}
-use Rattle.bmp_math.specs.Vectors.{SameVector, plus}
-use Rattle.bmp_math.specs.Matrices.{Matrix, NumbersBelow, SameMatrix, combination, image, IsInKernel}
+use Rattle.bmp_math.specs.Vectors.{SameVector}
+use Rattle.bmp_math.specs.Matrices.{Matrix, SameMatrix, combination, image, IsInKernel}
 use Rattle.bmp_math.proofs.CongruenceLemmas.{same_add, same_mul, same_cancel, same_past, same_below, mul_zero, zero_mul}
 use Rattle.bmp_math.proofs.SumLemmas.{sum_below_more, sum_below_same, sum_below-zero, sum_below-suc, sum_below-zeros, sum_below-add, sum_below-mul, sum_same_mod, sum_zero_mod, sum_only_mod}
 use Rattle.bmp_math.proofs.MatrixLemmas.{combination-combination}

@@ -1,17 +1,15 @@
 -- A basis grows by a row: what is left of the row once it is reduced, and the two ways on.
-use Rattle.std.proofs.Common.{◌≡◌, ◌≢◌, ℕ, zero, suc, ◌+◌, ◌*◌, ◌%◌, ◌<◌, ◌≤◌, Bool, List, [], ◌∷◌, ◌++◌, length, get_or, inl, inr, refl, sym, ap, ap₂, ◌∙◌, subst, cond, eqb, eq-eqb, eqb-true, ne_eqb, true, false, true≢false, set, length-set, get_or-set_same, get_or-set_other, arith}
+use Rattle.std.proofs.Common.{◌≡◌, ◌≢◌, ℕ, suc, ◌+◌, ◌*◌, ◌%◌, ◌<◌, ◌≤◌, List, [], ◌∷◌, ◌++◌, length, get_or, inl, inr, refl, sym, ap, ap₂, ◌∙◌, subst, cond, eqb, eq-eqb, eqb-true, ne_eqb, true, true≢false, set, length-set, get_or-set_same, get_or-set_other, arith}
 use Rattle.std.specs.List.{list_any}
-use Rattle.std.proofs.Math.Nat.{mod-eq_of_lt, zero-mod, mod-mod, mod-lt}
-use Rattle.std.proofs.lemmas.Bool.{cases_eq, cases_lt, cond-true, cond-false, or_cases}
+use Rattle.std.proofs.Math.Nat.{zero-mod, mod-mod, mod-lt}
+use Rattle.std.proofs.lemmas.Bool.{cases_eq, cond-true, cond-false, or_cases}
 use Rattle.std.proofs.lemmas.Bool.Decides.{Decides-eqb}
 use Rattle.std.proofs.lemmas.List.{get_or_default, get_or_push, get_or_append_left, length-append}
 use Rattle.std.proofs.lemmas.Map.Made.{IsDistinct-from_AllPairs}
 use Rattle.std.proofs.lemmas.Map.Steps.{length-le_from_distinct_below}
-use Rattle.bmp_math.specs.Sums.{sum_below}
 use Rattle.bmp_math.specs.Congruences.{SameMod}
-use Rattle.bmp_math.specs.Vectors.{SameVector, plus}
 use Rattle.bmp_math.specs.Matrices.{Matrix, NumbersBelow, combination}
-use Rattle.bmp_math.proofs.CongruenceLemmas.{same_add, same_mul}
+use Rattle.bmp_math.proofs.CongruenceLemmas.{same_add}
 use Rattle.bmp_math.proofs.SumLemmas.{sum_below_more, sum_below_same, sum_below-zero}
 use Rattle.bmp_linear.specs.RowChanges.{IsRowPushed, IsRowAddedTo, HoldsNumbers}
 use Rattle.bmp_elim.specs.GrowingBases.{HasLeading, IsRemainder, IsMultiplied, IsPivotPushed}

@@ -1,12 +1,10 @@
 -- Evidence for the kernel of the kept columns: their free places are those of all columns among the first ones.
-use Rattle.std.proofs.Common.{◌≡◌, ◌≢◌, ℕ, zero, suc, ◌+◌, ◌-◌, ◌%◌, ◌<◌, ◌≤◌, List, [], ◌∷◌, ◌++◌, length, get_or, inl, inr, refl, sym, ap, ap₂, ◌∙◌, subst, cond, true, arith}
+use Rattle.std.proofs.Common.{◌≡◌, ℕ, zero, suc, ◌+◌, ◌-◌, ◌%◌, ◌<◌, ◌≤◌, List, [], ◌∷◌, ◌++◌, length, get_or, inl, inr, refl, sym, ap, ap₂, ◌∙◌, cond, true, arith}
 use Rattle.std.proofs.lemmas.Bool.{cases_Bool, cases_lt}
-use Rattle.bmp_math.specs.Congruences.{SameMod}
 use Rattle.bmp_math.specs.Matrices.{Matrix}
 use Rattle.bmp_linear.specs.declared.vector.Entry.{Entry}
-use Rattle.bmp_linear.specs.SparseVectors.{FitsBelow, number_at}
+use Rattle.bmp_linear.specs.SparseVectors.{number_at}
 use Rattle.bmp_linear.specs.FreePlaces.{has_place, free_places}
-use Rattle.bmp_linear.specs.declared.evidence.KernelEvidence.{KernelEvidence}
 use Rattle.bmp_linear.proofs.SparseLemmas.{number_at-past}
 use Rattle.bmp_linear.proofs.FreeLemmas.{free_more_pivot, free_place_below}
 use Rattle.bmp_linear.proofs.KernelSpans.{place_found}

@@ -6,7 +6,7 @@ use Rattle.bmp_math.specs.Congruences.{SameMod}
 use Rattle.bmp_math.specs.Matrices.{Matrix, combination, image}
 use Rattle.bmp_math.proofs.CongruenceLemmas.{same_add, same_mul, mul_zero, one_mul}
 use Rattle.bmp_math.proofs.SumLemmas.{sum_below_same, sum_below-add, sum_below-mul}
-use Rattle.bmp_linear.specs.RowChanges.{IsRowAdded, IsRowMultiplied, AreRowsExchanged}
+use Rattle.bmp_linear.specs.RowChanges.{IsRowAdded, IsRowMultiplied, AreRowsExchanged, AreMultiplesAdded}
 
 -- how new rows are made: row i is factor i times row at i, and times i times row `from`
 pub record Mix : Type 0 where
@@ -72,6 +72,10 @@ mixed_same p m mix x y faithful same i l =
 abbrev pub added_mix : ℕ → ℕ → ℕ → Mix
 added_mix into from c = record { at = λ i. i; factor = λ i. 1; from = from; times = λ i. cond (eqb i into) c 0 }
 
+-- to each other row i the row `from` times c i
+abbrev pub spread_mix : ℕ → (ℕ → ℕ) → Mix
+spread_mix from c = record { at = λ i. i; factor = λ i. 1; from = from; times = λ i. cond (eqb i from) 0 (c i) }
+
 abbrev pub multiplied_mix : ℕ → ℕ → Mix
 multiplied_mix row c = record { at = λ i. i; factor = λ i. cond (eqb i row) c 1; from = row; times = λ i. 0 }
 
@@ -100,6 +104,24 @@ added_mixed p old new into from c h = record {
     | inr other ↦
         rw (cond-false {A = ℕ} (eqb i into) c 0 (ne_eqb i into other))
         (ap (λ z. z % p) (h.others i j l b other ∙ alone (old.entry i j) (old.entry from j)))
+  ];
+}
+
+pub spread_mixed : (p : ℕ) (old new : Matrix) (from : ℕ) (c : ℕ → ℕ) → AreMultiplesAdded p old new from c →
+    AreMixed p (spread_mix from c) old new
+spread_mixed p old new from c h = record {
+  rows = h.rows;
+  cols = h.cols;
+  mixes = λ i j l b. elim (cases_eq i from) [
+    | inl same ↦
+        rw (cond-true {A = ℕ} (eqb i from) 0 (c i) (eq-eqb i from same))
+        (ap (λ z. z % p) (ap (λ k. new.entry k j) same ∙ h.kept j b ∙ ap (λ k. old.entry k j) (sym same)
+        ∙ alone (old.entry i j) (old.entry from j)))
+    | inr other ↦
+        let whole : old.entry i j + c i * old.entry from j ≡ 1 * old.entry i j + c i * old.entry from j = omega arith in
+        rw (cond-false {A = ℕ} (eqb i from) 0 (c i) (ne_eqb i from other))
+        (ap (λ z. z % p) (h.added i j l b other) ∙ mod-mod (old.entry i j + c i * old.entry from j) p
+        ∙ ap (λ z. z % p) whole)
   ];
 }
 
@@ -171,6 +193,28 @@ added_faithful p m into from c below apart = record {
             rw (cond-true {A = ℕ} (eqb i into) c 0 (eq-eqb i into same)) (omega arith) in
             sym (more ∙ ap (λ z. z % p) none) ∙ ap (λ z. z % p) whole ∙ h i l
         | inr other ↦ unmixed i l other
+      ];
+}
+
+pub spread_faithful : (p m from : ℕ) (c : ℕ → ℕ) → from < m → IsFaithfulMix p m (spread_mix from c)
+spread_faithful p m from c below = record {
+  at_below = λ i l. l;
+  from_below = below;
+  only_zero = λ x h i l.
+      let zero : SameMod p (x from) 0 =
+      let whole : x from ≡ 1 * x from + cond (eqb from from) 0 (c from) * x from =
+      rw (cond-true {A = ℕ} (eqb from from) 0 (c from) (eq-eqb from from refl)) (omega arith) in
+      ap (λ z. z % p) whole ∙ h from below in
+      elim (cases_eq i from) [
+        | inl same ↦ ap (λ k. x k % p) same ∙ zero
+        | inr other ↦
+            let at_from : SameMod p (c i * x from) 0 = mul_zero p (c i) (x from) zero in
+            let more : SameMod p (x i + c i * x from) (x i + 0) =
+            same_add p (x i) (x i) (c i * x from) 0 refl at_from in
+            let none : x i + 0 ≡ x i = omega arith in
+            let whole : x i + c i * x from ≡ 1 * x i + cond (eqb i from) 0 (c i) * x from =
+            rw (cond-false {A = ℕ} (eqb i from) 0 (c i) (ne_eqb i from other)) (omega arith) in
+            sym (more ∙ ap (λ z. z % p) none) ∙ ap (λ z. z % p) whole ∙ h i l
       ];
 }
 

@@ -5,13 +5,14 @@ use Rattle.std.proofs.lemmas.Bool.{cases_eq}
 use Rattle.std.specs.Prelude.{slice_index}
 use Rattle.bmp_math.specs.Congruences.{SameMod}
 use Rattle.bmp_math.specs.Matrices.{Matrix, NumbersBelow}
-use Rattle.bmp_linear.specs.RowChanges.{IsRowAdded, IsRowMultiplied, AreRowsExchanged}
+use Rattle.bmp_linear.specs.RowChanges.{IsRowAdded, IsRowMultiplied, AreRowsExchanged, AreMultiplesAdded}
 use Rattle.bmp_linear.proofs.RowChangeLemmas.{numbers_below-added, numbers_below-multiplied, numbers_below-exchanged}
+use Rattle.bmp_linear.proofs.MultipleLemmas.{multiples-below}
 use Rattle.bmp_elim.specs.Echelons.{IsEchelon, IsReducedBelow}
 use Rattle.bmp_elim.specs.Traces.{IsTrace, HasTrace, AreUnits}
 use Rattle.bmp_elim.specs.Steps.{IsKept, IsColumnCleared, IsZeroFrom, IsFound, IsEliminated}
-use Rattle.bmp_elim.proofs.TraceLemmas.{alike_added, alike_multiplied, alike_exchanged, alike_start, trace_from_units}
-use Rattle.bmp_elim.proofs.ColumnLemmas.{reduced_added, reduced_multiplied, reduced_exchanged, reduced_without, reduced_push, reduced_start}
+use Rattle.bmp_elim.proofs.TraceLemmas.{alike_added, alike_spread, alike_multiplied, alike_exchanged, alike_start, trace_from_units}
+use Rattle.bmp_elim.proofs.ColumnLemmas.{reduced_added, reduced_spread, reduced_multiplied, reduced_exchanged, reduced_without, reduced_push, reduced_start}
 
 pub kept_start : (p col count : ℕ) (a t : Matrix) → NumbersBelow p a → NumbersBelow p t → IsKept p col count a a t t
 kept_start p col count a t numbers other_numbers = record {
@@ -123,6 +124,39 @@ cleared_start p col pivot a t numbers other_numbers one = record {
   kept = kept_start p col pivot a t numbers other_numbers;
   one = one;
   zero_elsewhere = λ k l other. absurd (omega arith);
+}
+
+-- where there are no columns nothing is to be added
+pub multiples_without_columns : (p : ℕ) (t : Matrix) (from : ℕ) (c : ℕ → ℕ) → t.cols ≡ 0 →
+    AreMultiplesAdded p t t from c
+multiples_without_columns p t from c none = record {
+  rows = refl;
+  cols = refl;
+  added = λ i j l b. absurd (omega arith);
+  kept = λ j b. refl;
+  others = λ i j l k b. refl;
+}
+
+-- all rows are cleared at once: c takes away what they are at the column
+pub cleared_spread : (p col pivot : ℕ) (c : ℕ → ℕ) (a new t new_t : Matrix) → 0 < p → col < a.cols → pivot < a.rows →
+    NumbersBelow p a → NumbersBelow p t → a.entry pivot col ≡ 1 →
+    ((i : ℕ) → i < a.rows → (a.entry i col + c i) % p ≡ 0) → AreMultiplesAdded p a new pivot c →
+    AreMultiplesAdded p t new_t pivot c → IsColumnCleared p col pivot a.rows a new t new_t
+cleared_spread p col pivot c a new t new_t positive column row numbers other_numbers one away x y = record {
+  kept = record {
+    rows = x.rows;
+    cols = x.cols;
+    other_rows = y.rows;
+    numbers = multiples-below a.rows p a new pivot c x positive numbers;
+    other_numbers = multiples-below t.rows p t new_t pivot c y positive other_numbers;
+    alike = λ old_a old_t h. alike_spread p old_a a new old_t t new_t h pivot c (rw (← h.first.rows) row) x y;
+    reduced = λ place h. reduced_spread col a new pivot place h p pivot c (omega arith) numbers (omega arith) row x;
+  };
+  one = x.kept col column ∙ one;
+  zero_elsewhere = λ i l other.
+      let times : c i * a.entry pivot col ≡ c i * 1 = ap (λ z. c i * z) one in
+      let single : a.entry i col + c i * a.entry pivot col ≡ a.entry i col + c i = omega arith in
+      x.added i col l column other ∙ ap (λ z. z % p) single ∙ away i l;
 }
 
 -- exchange, multiply, clear

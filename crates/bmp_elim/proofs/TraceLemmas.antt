@@ -5,10 +5,10 @@ use Rattle.bmp_math.specs.Vectors.{unit}
 use Rattle.bmp_math.specs.Matrices.{Matrix, combination, image, IsInKernel}
 use Rattle.bmp_math.proofs.CongruenceLemmas.{same_mul}
 use Rattle.bmp_math.proofs.SumLemmas.{sum_below_same, sum_same_mod}
-use Rattle.bmp_linear.specs.RowChanges.{IsRowAdded, IsRowMultiplied, AreRowsExchanged}
+use Rattle.bmp_linear.specs.RowChanges.{IsRowAdded, IsRowMultiplied, AreRowsExchanged, AreMultiplesAdded}
 use Rattle.bmp_elim.specs.Traces.{IsTrace, HasTrace, AreChangedAlike, AreUnits}
 use Rattle.bmp_math.proofs.UnitLemmas.{unit_rows, unit_combination, combination_unit, image_unit}
-use Rattle.bmp_elim.proofs.Mixes.{Mix, mixed, AreMixed, IsFaithfulMix, mixed-combination, mixed-image, mixed_same, added_mix, added_mixed, added_faithful, multiplied_mix, multiplied_mixed, multiplied_faithful, exchanged_mix, exchanged_mixed, exchanged_faithful}
+use Rattle.bmp_elim.proofs.Mixes.{Mix, mixed, AreMixed, IsFaithfulMix, mixed-combination, mixed-image, mixed_same, added_mix, added_mixed, added_faithful, spread_mix, spread_mixed, spread_faithful, multiplied_mix, multiplied_mixed, multiplied_faithful, exchanged_mix, exchanged_mixed, exchanged_faithful}
 
 -- the trace is mixed as the rows are
 trace_mixed : (p : ℕ) (old a new t : Matrix) (mix : Mix) → IsFaithfulMix p old.rows mix → AreMixed p mix a new →
@@ -48,6 +48,12 @@ module _ (p : ℕ) (old_a a new_a old_t t new_t : Matrix) (h : AreChangedAlike p
       alike_mixed p old_a a new_a old_t t new_t (added_mix into from c)
       (added_faithful p old_a.rows into from c below apart) (added_mixed p a new_a into from c x)
       (added_mixed p t new_t into from c y) h
+
+  pub alike_spread : (from : ℕ) (c : ℕ → ℕ) → from < old_a.rows → AreMultiplesAdded p a new_a from c →
+      AreMultiplesAdded p t new_t from c → AreChangedAlike p old_a new_a old_t new_t
+  alike_spread from c below x y =
+      alike_mixed p old_a a new_a old_t t new_t (spread_mix from c) (spread_faithful p old_a.rows from c below)
+      (spread_mixed p a new_a from c x) (spread_mixed p t new_t from c y) h
 
   pub alike_multiplied : (row c d : ℕ) → row < old_a.rows → SameMod p (c * d) 1 → IsRowMultiplied p a new_a row c →
       IsRowMultiplied p t new_t row c → AreChangedAlike p old_a new_a old_t new_t

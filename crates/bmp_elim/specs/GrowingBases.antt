@@ -16,7 +16,7 @@
 --   IsMultiplied p c old new            each number times c, modulo p
 --   IsNegated p n numbers v             v has the first n numbers, each times p - 1
 --   IsPivotPushed p j w u a t new_a new_t   a remainder that leads at j is a row more
-use Rattle.std.specs.Prelude.{◌≡◌, ◌≢◌, ℕ, ◌+◌, ◌-◌, ◌*◌, ◌%◌, ◌<◌, ◌≤◌, ◌⊎◌, ◌==◌, if◌then◌else◌, List, [], ◌∷◌, ◌++◌, length, slice_index}
+use Rattle.std.specs.Prelude.{◌≡◌, ◌≢◌, ℕ, ◌-◌, ◌*◌, ◌%◌, ◌<◌, ◌≤◌, ◌⊎◌, ◌==◌, if◌then◌else◌, List, [], ◌∷◌, ◌++◌, length, slice_index}
 use Rattle.bmp_math.specs.Congruences.{SameMod}
 use Rattle.bmp_math.specs.Vectors.{SameVector, plus}
 use Rattle.bmp_math.specs.Matrices.{Matrix, NumbersBelow, combination}

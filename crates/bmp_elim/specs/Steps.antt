@@ -1,10 +1,11 @@
 -- What the steps of elimination do to rows and to others that are changed alike.
 --   IsZeroFrom a from end col                      the rows from `from` on and below `end` are 0 at the column
 --   IsFound a from row col                         the row, from `from` on, isn't 0 at the column
+--   IsTakenAwayBelow n p a col factors             the factors take away what the rows below n are at the column
 --   IsKept p col count a new_a t new_t             changes that keep the columns below col, of rows from `count` on
 --   IsColumnCleared p col pivot n a new_a t new_t  the rows below n are 0 at the column but for the pivot's, which is 1
 --   IsEliminated p n a new_a t new_t pivots        the columns below n are reduced
-use Rattle.std.specs.Prelude.{◌≡◌, ◌≢◌, ℕ, ◌<◌, ◌≤◌, List, length, slice_index}
+use Rattle.std.specs.Prelude.{◌≡◌, ◌≢◌, ℕ, ◌+◌, ◌%◌, ◌<◌, ◌≤◌, List, length, slice_index}
 use Rattle.bmp_math.specs.Matrices.{Matrix, NumbersBelow}
 use Rattle.bmp_elim.specs.Echelons.{IsReducedBelow}
 use Rattle.bmp_elim.specs.Traces.{AreChangedAlike}
@@ -18,6 +19,10 @@ pub record IsFound (a : Matrix) (from row col : ℕ) : Type 0 where
   pub late : from ≤ row
   pub within : row < a.rows
   pub not_zero : a.entry row col ≢ 0
+
+-- each row below n has a factor that takes away what the row is at the column
+abbrev pub IsTakenAwayBelow : ℕ → ℕ → Matrix → ℕ → List ℕ → Type 0
+IsTakenAwayBelow n p a col factors = (i : ℕ) → i < n → (a.entry i col + slice_index factors i) % p ≡ 0
 
 -- the changes keep what leads to the rows, and the columns below col that are reduced with `count` pivots
 pub record IsKept (p col count : ℕ) (a new_a t new_t : Matrix) : Type 0 where

@@ -7,6 +7,7 @@ pub mod RowSums
 pub mod RowChangeLemmas
 pub mod RowTableLemmas
 pub mod RunRowLemmas
+pub mod MultipleLemmas
 pub mod SparseRowLemmas
 pub mod SparseRowChangeLemmas
 pub mod ShapeLemmas

@@ -1,5 +1,5 @@
 -- Numbers below p stay so as rows are pushed and changed.
-use Rattle.std.proofs.Common.{◌≡◌, ℕ, ◌+◌, ◌*◌, ◌%◌, ◌<◌, List, sym, subst, inl, inr, arith, mod-lt}
+use Rattle.std.proofs.Common.{◌≡◌, ℕ, ◌+◌, ◌*◌, ◌<◌, List, sym, subst, inl, inr, arith, mod-lt}
 use Rattle.std.proofs.lemmas.Bool.{cases_eq}
 use Rattle.bmp_math.specs.Matrices.{Matrix, NumbersBelow}
 use Rattle.bmp_linear.specs.declared.vector.Entry.{Entry}

@@ -2,8 +2,8 @@
 use Rattle.std.proofs.Common.{◌≡◌, ◌≢◌, ℕ, ◌+◌, ◌-◌, ◌*◌, ◌<◌, ◌≤◌, ◌%◌, List, length, get_or, set, length-set, get_or-set_same, get_or-set_other, subst, refl, ap, sym, ◌∙◌, inl, inr, arith}
 use Rattle.std.proofs.lemmas.Bool.{cases_eq, cases_lt}
 use Rattle.bmp_math.specs.Matrices.{Matrix}
-use Rattle.bmp_linear.specs.RowTables.{NumberTable, matrix_of_numbers}
-use Rattle.bmp_linear.specs.RowChanges.{IsRowAdded, IsRowMultiplied, AreRowsExchanged}
+use Rattle.bmp_linear.specs.RowTables.{NumberTable, matrix_of_numbers, rows_of}
+use Rattle.bmp_linear.specs.RowChanges.{IsRowAdded, IsRowMultiplied, AreRowsExchanged, AreMultiplesAdded}
 use Rattle.bmp_linear.specs.Runs.{IsOutside, AreApart, HoldsRun, IsRunAdded, IsRunMultiplied, AreRunsExchanged}
 
 -- one number more
@@ -51,7 +51,7 @@ rows_apart i j cols other =
     ]
 
 -- the numbers of another row are outside
-outside : (i r j cols : ℕ) → j < cols → i ≢ r → IsOutside (r * cols) cols (i * cols + j)
+pub outside : (i r j cols : ℕ) → j < cols → i ≢ r → IsOutside (r * cols) cols (i * cols + j)
 outside i r j cols k other =
     elim (cases_lt i r) [
       | inl earlier ↦ let ends : i * cols + cols ≤ r * cols = row_ends i r cols earlier in inl (omega arith)
@@ -112,3 +112,11 @@ module _ (t : NumberTable) (rows cols : ℕ) (numbers old new kept : List ℕ)
           others = λ i j l k other_first other_second. run.others (i * cols + j) (outside i first j cols k other_first)
               (outside i second j cols k other_second);
         })
+
+    pub multiples_added : (p n from : ℕ) (c : ℕ → ℕ) → n ≡ rows →
+        AreMultiplesAdded p (rows_of n cols old) (rows_of n cols new) from c →
+        AreMultiplesAdded p (matrix_of_numbers t)
+        (matrix_of_numbers (record { rows = rows; cols = cols; numbers = kept })) from c
+    multiples_added p n from c as_many h =
+        of_tables (λ a b. AreMultiplesAdded p a b from c)
+        (subst (λ m. AreMultiplesAdded p (rows_of m cols old) (rows_of m cols new) from c) as_many h)

@@ -1,5 +1,5 @@
 -- What the checks compare is the same on equal matrices, and so evidence passes on them alike.
-use Rattle.std.proofs.Common.{◌≡◌, ℕ, ◌%◌, ◌<◌, List, inl, inr, length, get_or, sym, ap, subst, ◌∙◌}
+use Rattle.std.proofs.Common.{ℕ, ◌%◌, ◌<◌, List, inl, inr, get_or, sym, ap, subst, ◌∙◌}
 use Rattle.bmp_math.specs.Matrices.{Matrix, SameMatrix}
 use Rattle.bmp_math.proofs.SameMatrices.{image_same, combination_same}
 use Rattle.bmp_linear.specs.declared.vector.Entry.{Entry}

@@ -4,7 +4,7 @@
 --   StartsAt v place                  the first entry stands at the place
 --   IsNextEntry p c u v e             the number at the lowest place of u plus c times v
 --   IsEntrySum p c u v w              w is u plus c times v
-use Rattle.std.specs.Prelude.{◌≡◌, ℕ, ◌+◌, ◌*◌, ◌%◌, ◌<◌, ◌≤◌, ◌==◌, ◌⊎◌, List, [], ◌∷◌, if◌then◌else◌, All}
+use Rattle.std.specs.Prelude.{◌≡◌, ℕ, ◌+◌, ◌*◌, ◌%◌, ◌≤◌, ◌==◌, ◌⊎◌, List, [], ◌∷◌, if◌then◌else◌, All}
 use Rattle.bmp_linear.specs.declared.vector.Entry.{Entry}
 use Rattle.bmp_linear.specs.SparseVectors.{IsSparse, ValuesBelow, number_at}
 

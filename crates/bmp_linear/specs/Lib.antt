@@ -3,6 +3,7 @@ pub mod RowTables
 pub mod RowVectors
 pub mod RowChanges
 pub mod Runs
+pub mod RowRuns
 pub mod EntryChanges
 pub mod FreePlaces
 pub mod Faults

@@ -3,6 +3,8 @@
 --   IsRowAdded p old new into from c     c times the row `from` was added to the row `into`
 --   IsRowMultiplied p old new row c      the row was multiplied by c
 --   AreRowsExchanged old new i j         the rows i and j changed places
+--   AreMultiplesAdded p old new from c   to each other row i the row `from` was added c i times
+--   AreMultiplesAddedBelow n p ..        the same to the rows below n
 --   HoldsNumbers p n list                the first n of the list are numbers below p
 --   IsRowAddedTo p a i c old new         c times row i of a was added to a row of numbers
 --   AddsEntries p c v old new            c times a vector was added to a row of numbers
@@ -40,6 +42,18 @@ pub record AreRowsExchanged (old new : Matrix) (first second : ℕ) : Type 0 whe
   pub at_first : (j : ℕ) → j < old.cols → new.entry first j ≡ old.entry second j
   pub at_second : (j : ℕ) → j < old.cols → new.entry second j ≡ old.entry first j
   pub others : (i j : ℕ) → i < old.rows → j < old.cols → i ≢ first → i ≢ second → new.entry i j ≡ old.entry i j
+
+-- to each row i below n but `from` the row `from` was added c i times, modulo p, and nothing else changed
+pub record AreMultiplesAddedBelow (n p : ℕ) (old new : Matrix) (from : ℕ) (c : ℕ → ℕ) : Type 0 where
+  pub rows : new.rows ≡ old.rows
+  pub cols : new.cols ≡ old.cols
+  pub added : (i j : ℕ) → i < n → j < old.cols → i ≢ from →
+      new.entry i j ≡ (old.entry i j + c i * old.entry from j) % p
+  pub kept : (j : ℕ) → j < old.cols → new.entry from j ≡ old.entry from j
+  pub others : (i j : ℕ) → n ≤ i → i < old.rows → j < old.cols → new.entry i j ≡ old.entry i j
+
+abbrev pub AreMultiplesAdded : ℕ → Matrix → Matrix → ℕ → (ℕ → ℕ) → Type 0
+AreMultiplesAdded p old new from c = AreMultiplesAddedBelow old.rows p old new from c
 
 -- the first n of the list are numbers below p
 pub record HoldsNumbers (p n : ℕ) (list : List ℕ) : Type 0 where

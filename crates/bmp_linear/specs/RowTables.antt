@@ -4,6 +4,7 @@
 --   Work                    the two rows of a scratch
 --   entries_of row          the entries that a row of sparse rows keeps
 --   matrix_of_numbers t     the number of row i and column j stands at i * cols + j
+--   rows_of n cols list     the matrix of n rows of cols numbers, row after row in the list
 --   matrix_of_entries t     the number of row i and column j is that of the row's entries at j
 use Rattle.std.specs.Prelude.{ℕ, ◌+◌, ◌*◌, List, [], length, slice_index, slice_index_or}
 use Rattle.bmp_math.specs.Matrices.{Matrix}
@@ -26,6 +27,9 @@ pub record Work : Type 0 where
 
 abbrev pub matrix_of_numbers : NumberTable → Matrix
 matrix_of_numbers t = record { rows = t.rows; cols = t.cols; entry = λ i j. slice_index t.numbers (i * t.cols + j) }
+
+abbrev pub rows_of : ℕ → ℕ → List ℕ → Matrix
+rows_of n cols list = matrix_of_numbers (record { rows = n; cols = cols; numbers = list })
 
 abbrev pub matrix_of_entries : EntryTable → Matrix
 matrix_of_entries t =

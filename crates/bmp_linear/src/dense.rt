@@ -3,6 +3,7 @@ ghost use Rattle.std.specs.Prelude.{◌≡◌, ℕ, ◌+◌, ◌*◌, ◌<◌, [
 ghost use Rattle.bmp_math.specs.Matrices.{Matrix};
 ghost use Rattle.bmp_linear.specs.RowTables.{NumberTable, matrix_of_numbers};
 
+use crate::multiples::add_multiples;
 use crate::rows::{RowSpace, Rows};
 use crate::runs::{add_run, scale_run, swap_runs};
 use crate::vector::Vector;
@@ -105,6 +106,13 @@ impl<F: Field> RowSpace<F> for DenseRows<F> {
             cols,
         );
         Ok(())
+    }
+
+    fn add_to_rows(&mut self, f: &F, from: u32, factors: &[u8]) -> Result<(), AllocError> {
+        let alloc = *self.numbers.allocator();
+        let cols = self.cols as usize;
+        let numbers = self.numbers.as_mut_slice();
+        add_multiples(alloc, f, numbers, cols, from as usize, factors)
     }
 
     fn scale_row(&mut self, f: &F, i: u32, c: F::E) {

@@ -15,6 +15,7 @@ mod entry_sums;
 pub mod evidence;
 pub mod fault;
 pub mod kernel;
+mod multiples;
 pub mod places;
 pub mod rows;
 mod runs;

@@ -4,7 +4,7 @@ ghost use Rattle.bmp_math.specs.Matrices.{Matrix, NumbersBelow, image};
 ghost use Rattle.bmp_field.specs.Runs.{AreBelow};
 ghost use Rattle.bmp_linear.specs.SparseVectors.{FitsBelow, ValuesBelow, IsSpread, number_at};
 ghost use Rattle.bmp_linear.specs.RowVectors.{IsRowVector};
-ghost use Rattle.bmp_linear.specs.RowChanges.{IsRowPushed, IsRowAdded, IsRowMultiplied, AreRowsExchanged, HoldsNumbers, IsRowAddedTo};
+ghost use Rattle.bmp_linear.specs.RowChanges.{IsRowPushed, IsRowAdded, IsRowMultiplied, AreRowsExchanged, AreMultiplesAdded, HoldsNumbers, IsRowAddedTo};
 
 use crate::scratch::clear;
 use crate::vector::Vector;
@@ -134,6 +134,26 @@ pub trait RowSpace<F: Field>: Rows<F> + Drop {
             (IsRowAdded (F.size f.now) (Self.matrix self.old) (Self.matrix self.new) into from (F.num f.now c)) }
         ensures numbers { OnOk result (NumbersBelow (F.size f.now) (Self.matrix self.new)) }
         ensures err { OnErr result (self.new ≡ self.old) };
+
+    /// Adds to each row but `from` its factor times the row `from`: row `i` has the factor number `i`, and
+    /// that of `from` is read by none. Where memory is wanting some rows may be changed and others not.
+    fn add_to_rows(&mut self, f: &F, from: u32, factors: &[u8]) -> Result<(), AllocError>
+        requires numbers { NumbersBelow (F.size f.now) (Self.matrix self.old) }
+        requires from { from < (Self.matrix self.old).rows }
+        requires as_many { length factors.now ≡ (Self.matrix self.old).rows }
+        requires factors { AreBelow (F.size f.now) factors.now }
+        ensures ok { OnOk result (AreMultiplesAdded (F.size f.now) (Self.matrix self.old) (Self.matrix self.new) from
+            (slice_index factors.now)) }
+        ensures numbers { OnOk result (NumbersBelow (F.size f.now) (Self.matrix self.new)) }
+    {
+        for i in 0..self.rows() {
+            let c = factors[i as usize];
+            if i != from && c != 0 {
+                self.add_row(f, i, from, f.from_num(u32::from(c)))?;
+            }
+        }
+        Ok(())
+    }
 
     /// Multiplies the row `i` by `c`, which isn't zero.
     fn scale_row(&mut self, f: &F, i: u32, c: F::E)

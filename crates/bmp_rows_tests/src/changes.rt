@@ -16,6 +16,8 @@ enum Change {
     Nothing,
     Push([u8; 2]),
     Add { into: u32, from: u32, factor: u8 },
+    AddToTwo(u32, [u8; 2]),
+    AddToThree(u32, [u8; 3]),
     Scale(u32, u8),
     Swap(u32, u32),
 }
@@ -34,6 +36,22 @@ fn add<A: RowSpace<PrimeField>>(
 {
     assert!(rt; into < a.rows() && from < a.rows() && into != from && f.is_value(factor));
     a.add_row(f, into, from, factor)
+}
+
+/// Adds to each row but one its factor times that.
+fn add_to_all<A: RowSpace<PrimeField>>(
+    rt: &impl Abort,
+    f: &PrimeField,
+    a: &mut A,
+    from: u32,
+    factors: &[u8],
+) -> Result<(), AllocError>
+    requires { NumbersBelow (size_of f.now) (A.matrix a.old) }
+    ensures { OnOk result (NumbersBelow (size_of f.now) (A.matrix a.new)) }
+{
+    assert!(rt; from < a.rows() && factors.len() == a.rows() as usize);
+    assert!(rt; factors.iter().all(|c| f.is_value(*c)));
+    a.add_to_rows(f, from, factors)
 }
 
 /// Multiplies a row by a factor.
@@ -62,6 +80,8 @@ fn apply<A: RowSpace<PrimeField>>(
             a.push_numbers(f, &row)
         }
         Change::Add { into, from, factor } => add(rt, f, a, into, from, factor),
+        Change::AddToTwo(from, factors) => add_to_all(rt, f, a, from, &factors),
+        Change::AddToThree(from, factors) => add_to_all(rt, f, a, from, &factors),
         Change::Scale(i, factor) => {
             scale(rt, f, a, i, factor);
             Ok(())
@@ -98,14 +118,23 @@ fn judge_changes<A: RowSpace<PrimeField>>(
         (Change::Scale(1, 2), [2, 0, 1, 1].as_slice()),
         (Change::Swap(0, 1), [1, 1, 2, 0].as_slice()),
         (Change::Swap(1, 1), [1, 1, 2, 0].as_slice()),
-        (Change::Push([0, 2]), [1, 1, 2, 0, 0, 2].as_slice()),
+        (Change::AddToTwo(1, [2, 1]), [2, 1, 2, 0].as_slice()),
+        (Change::Push([0, 2]), [2, 1, 2, 0, 0, 2].as_slice()),
         (
             Change::Add {
                 into: 2,
                 from: 0,
                 factor: 1,
             },
-            [1, 1, 2, 0, 1, 0].as_slice(),
+            [2, 1, 2, 0, 2, 0].as_slice(),
+        ),
+        (
+            Change::AddToThree(0, [1, 1, 2]),
+            [2, 1, 1, 1, 0, 2].as_slice(),
+        ),
+        (
+            Change::AddToThree(2, [2, 0, 1]),
+            [2, 2, 1, 1, 0, 2].as_slice(),
         ),
     ] {
         apply(rt, f, &mut a, change)?;

@@ -1,4 +1,4 @@
-use Rattle.std.proofs.Common.{ℕ, refl, sym, ◌∙◌}
+use Rattle.std.proofs.Common.{refl, sym, ◌∙◌}
 use Rattle.bmp_math.specs.Matrices.{Matrix}
 use Rattle.bmp_elim.proofs.GrownLemmas.{grown_none}
 use Rattle.bmp_elim.proofs.growing.empty_basis.Goals as goal

@@ -1,4 +1,3 @@
-use Rattle.std.proofs.Common.{◌≡◌, ◌<◌, length, sym, arith, rules}
 use Rattle.bmp_linear.specs.SparseVectors.{number_at}
 use Rattle.bmp_elim.proofs.GrownLemmas.{pushed_rows, pushed_made}
 use Rattle.bmp_elim.proofs.growing.grow_basis.Goals as goal

@@ -1,4 +1,4 @@
-use Rattle.std.proofs.Common.{◌≡◌, ◌≤◌, length, take, sym, ◌∙◌, subst, arith}
+use Rattle.std.proofs.Common.{◌≡◌, ◌≤◌, length, take, ◌∙◌, subst, arith}
 use Rattle.std.proofs.lemmas.List.{length-take-le, get_or-take}
 use Rattle.bmp_linear.specs.SparseVectors.{FitsBelow}
 use Rattle.bmp_elim.proofs.GrownLemmas.{negated_made}

@@ -1,5 +1,4 @@
 use Rattle.std.proofs.Common.{◌≡◌, ◌+◌, ◌%◌, ◌<◌, ◌≤◌, length, get_or, ap, sym, ◌∙◌, rules, arith}
-use Rattle.bmp_math.specs.Congruences.{SameMod}
 use Rattle.bmp_elim.proofs.GrowthLemmas.{remainder_start, remainder_same, remainder_more}
 use Rattle.bmp_elim.proofs.growing.reduce_row.Goals as goal
 use Rattle.bmp_elim.proofs.growing.reduce_row.Goals.{then-num-ne0, else-num-ne0}

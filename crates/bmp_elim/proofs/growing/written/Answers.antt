@@ -1,4 +1,4 @@
-use Rattle.std.proofs.Common.{◌≡◌, ℕ, ◌<◌, ◌≤◌, length, sym, ◌∙◌, arith}
+use Rattle.std.proofs.Common.{◌≡◌, ◌≤◌, length, arith}
 use Rattle.bmp_linear.specs.SparseVectors.{number_at}
 use Rattle.bmp_linear.proofs.SparseLemmas.{number_at-below}
 use Rattle.bmp_elim.specs.GrowingBases.{IsRemainder, IsNegated}

@@ -1,4 +1,4 @@
-use Rattle.std.proofs.Common.{◌∙◌, get_or, set, ap, rules}
+use Rattle.std.proofs.Common.{◌∙◌, set, ap, rules}
 use Rattle.std.proofs.lemmas.List.{get_or_default}
 use Rattle.std.proofs.lemmas.List.Edits.{map_over_more}
 use Rattle.bmp_linear.specs.EntryChanges.{times_entry}

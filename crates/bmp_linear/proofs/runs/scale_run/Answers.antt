@@ -1,4 +1,4 @@
-use Rattle.std.proofs.Common.{◌∙◌, arith, rules}
+use Rattle.std.proofs.Common.{◌∙◌, rules}
 use Rattle.bmp_linear.proofs.RunRowLemmas.{multiplied_more, still_below}
 use Rattle.bmp_linear.proofs.runs.scale_run.Goals as goal
 
