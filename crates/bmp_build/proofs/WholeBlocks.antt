@@ -100,8 +100,7 @@ module _ {G : Graph} {F : SheafData} {x d : ℕ} {b : DegreeBlock} (whole : IsWh
       (hold_both (kernel_sizes sizes b.kernel) (cover_sizes sizes b.cover ++ last_size sizes)
       (kernel_holds sizes b.kernel whole.space.fits)
       (hold_both (cover_sizes sizes b.cover) (last_size sizes)
-      (covers_hold sizes b.cover whole.covers_fit whole.sources_fit whole.duals_fit)
-      (
+      (covers_hold sizes b.cover whole.covers_fit whole.sources_fit whole.duals_fit) (
         omega (arith, whole.few, whole.few_on_boundary, whole.space.few_positions, whole.space.few_equations),
         tt,
       )))

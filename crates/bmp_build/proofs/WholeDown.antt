@@ -48,102 +48,102 @@ same_more {A = A} stalk same first second = record {
 
 module _ {A : Type 0} {G : Graph} {D : ℕ} {s : SheafState A} {parts : List VertexPart} (h : AreWholeDown G D s parts)
   where
-  pub whole_pushed : length s.stalks ≡ length parts
-  whole_pushed = ap length h.stalks ∙ length-map parts cert_stalk
+    pub whole_pushed : length s.stalks ≡ length parts
+    whole_pushed = ap length h.stalks ∙ length-map parts cert_stalk
 
-  own_vertices : vertex_count s.graph ≡ vertex_count G
-  own_vertices = ap (λ (H : Graph). vertex_count H) h.graph
+    own_vertices : vertex_count s.graph ≡ vertex_count G
+    own_vertices = ap (λ (H : Graph). vertex_count H) h.graph
 
-  -- ---- the end
+    -- ---- the end
 
-  pub are_whole : vertex_count G ≤ length parts → AreWhole A G (record { degree = D; parts = parts })
-  are_whole all =
-      let c : Written = record { degree = D; parts = parts } in
-      let counted : length parts ≡ vertex_count G = omega (arith, all, h.few) in
-      let first : length parts - 1 - (vertex_count G - 1) ≡ 0 = omega (arith, counted) in
-      record {
-        counted = counted;
-        top = ap (λ (k : ℕ). get_or parts k no_part) first ∙ h.top;
-        others = λ x vertex.
-            (h.vertices x vertex (omega (arith, vertex, counted))).built c
-            (record {
-              degree = refl;
-              counted = counted;
-              begins = take_all (length parts) parts (omega arith);
-            });
+    pub are_whole : vertex_count G ≤ length parts → AreWhole A G (record { degree = D; parts = parts })
+    are_whole all =
+        let c : Written = record { degree = D; parts = parts } in
+        let counted : length parts ≡ vertex_count G = omega (arith, all, h.few) in
+        let first : length parts - 1 - (vertex_count G - 1) ≡ 0 = omega (arith, counted) in
+        record {
+          counted = counted;
+          top = ap (λ (k : ℕ). get_or parts k no_part) first ∙ h.top;
+          others = λ x vertex.
+              (h.vertices x vertex (omega (arith, vertex, counted))).built c
+              (record {
+                degree = refl;
+                counted = counted;
+                begins = take_all (length parts) parts (omega arith);
+              });
+        }
+
+    -- ---- one vertex more
+
+    module _ (left : length s.stalks < vertex_count s.graph) {new : SheafState A} {part : VertexPart}
+        (built : IsWholePart s new part) where
+      more_left : length parts < vertex_count G
+      more_left = omega (arith, left, whole_pushed, own_vertices)
+
+      one_more : length (parts ++ part ∷ []) ≡ length parts + 1
+      one_more = length_push parts part
+
+      -- the part of the vertex
+      at_vertex : IsHeldPart part → IsWholeIn A G D (parts ++ part ∷ []) (vertex_count G - 1 - length parts)
+      at_vertex held = record {
+        built = λ c more.
+            let fewer : Continues G D parts c = continues_fewer part more_left more in
+            let place : vertex_count G - 1 - (vertex_count G - 1 - length parts) ≡ length parts =
+            omega (arith, more_left) in
+            let own : part_of c (vertex_count G - 1 - length parts) ≡ part =
+            part_there more (vertex_count G - 1 - length parts) (omega (arith, more_left))
+            (omega (arith, more_left, one_more))
+            ∙ ap (λ (i : ℕ). get_or (parts ++ part ∷ []) i no_part) place
+            ∙ get_or_push parts part no_part (length parts) refl in
+            record {
+              old = s;
+              new = new;
+              before = record {
+                graph = h.graph;
+                degree = h.degree ∙ sym more.degree;
+                stalks =
+                    h.stalks ∙ ap (map cert_stalk) (sym fewer.begins)
+                    ∙ ap (λ (i : ℕ). map cert_stalk (take i c.parts)) (sym place);
+              };
+              built = subst (λ (p : VertexPart). IsWholePart s new p) (sym own) built;
+              held = subst IsHeldPart (sym own) held;
+            };
       }
 
-  -- ---- one vertex more
+      pub whole_more : IsHeldPart part → AreWholeDown G D new (parts ++ part ∷ [])
+      whole_more held = record {
+        graph = ap (λ (u : SheafState A). u.graph) built.own.stalk ∙ h.graph;
+        degree = ap (λ (u : SheafState A). u.degree) built.own.stalk ∙ h.degree;
+        stalks =
+            ap (λ (u : SheafState A). u.stalks) built.own.stalk
+            ∙ ap (λ (l : List Stalk). l ++ cert_stalk part ∷ []) h.stalks
+            ∙ sym (map-append cert_stalk parts (part ∷ []));
+        some = omega (arith, one_more);
+        few = omega (arith, one_more, more_left);
+        top = get_or_append_left parts (part ∷ []) no_part 0 (omega (arith, h.some)) ∙ h.top;
+        vertices = λ y vertex there. elim (cases_lt (y + length parts) (vertex_count G)) [
+          | inl last ↦
+              let is : y ≡ vertex_count G - 1 - length parts = omega (arith, last, there, one_more) in
+              subst (IsWholeIn A G D (parts ++ part ∷ [])) (sym is) (at_vertex held)
+          | inr before ↦ record {
+            built = λ c more. (h.vertices y vertex before).built c (continues_fewer part more_left more);
+          }
+        ];
+      }
 
-  module _ (left : length s.stalks < vertex_count s.graph) {new : SheafState A} {part : VertexPart}
-      (built : IsWholePart s new part) where
-    more_left : length parts < vertex_count G
-    more_left = omega (arith, left, whole_pushed, own_vertices)
+      -- ---- and of the same sheaf in memory
 
-    one_more : length (parts ++ part ∷ []) ≡ length parts + 1
-    one_more = length_push parts part
+      module _ {t : SheafState A} (same : IsSameSheaf t s) where
+        pub same_left : length t.stalks < vertex_count t.graph
+        same_left = omega (arith, left, ap length same.stalks, ap (λ (H : Graph). vertex_count H) same.graph)
 
-    -- the part of the vertex
-    at_vertex : IsHeldPart part → IsWholeIn A G D (parts ++ part ∷ []) (vertex_count G - 1 - length parts)
-    at_vertex held = record {
-      built = λ c more.
-          let fewer : Continues G D parts c = continues_fewer part more_left more in
-          let place : vertex_count G - 1 - (vertex_count G - 1 - length parts) ≡ length parts =
-          omega (arith, more_left) in
-          let own : part_of c (vertex_count G - 1 - length parts) ≡ part =
-          part_there more (vertex_count G - 1 - length parts) (omega (arith, more_left))
-          (omega (arith, more_left, one_more))
-          ∙ ap (λ (i : ℕ). get_or (parts ++ part ∷ []) i no_part) place
-          ∙ get_or_push parts part no_part (length parts) refl in
-          record {
-            old = s;
-            new = new;
-            before = record {
-              graph = h.graph;
-              degree = h.degree ∙ sym more.degree;
-              stalks =
-                  h.stalks ∙ ap (map cert_stalk) (sym fewer.begins)
-                  ∙ ap (λ (i : ℕ). map cert_stalk (take i c.parts)) (sym place);
-            };
-            built = subst (λ (p : VertexPart). IsWholePart s new p) (sym own) built;
-            held = subst IsHeldPart (sym own) held;
-          };
-    }
-
-    pub whole_more : IsHeldPart part → AreWholeDown G D new (parts ++ part ∷ [])
-    whole_more held = record {
-      graph = ap (λ (u : SheafState A). u.graph) built.own.stalk ∙ h.graph;
-      degree = ap (λ (u : SheafState A). u.degree) built.own.stalk ∙ h.degree;
-      stalks =
-          ap (λ (u : SheafState A). u.stalks) built.own.stalk
-          ∙ ap (λ (l : List Stalk). l ++ cert_stalk part ∷ []) h.stalks
-          ∙ sym (map-append cert_stalk parts (part ∷ []));
-      some = omega (arith, one_more);
-      few = omega (arith, one_more, more_left);
-      top = get_or_append_left parts (part ∷ []) no_part 0 (omega (arith, h.some)) ∙ h.top;
-      vertices = λ y vertex there. elim (cases_lt (y + length parts) (vertex_count G)) [
-        | inl last ↦
-            let is : y ≡ vertex_count G - 1 - length parts = omega (arith, last, there, one_more) in
-            subst (IsWholeIn A G D (parts ++ part ∷ [])) (sym is) (at_vertex held)
-        | inr before ↦ record {
-          built = λ c more. (h.vertices y vertex before).built c (continues_fewer part more_left more);
-        }
-      ];
-    }
-
-    -- ---- and of the same sheaf in memory
-
-    module _ {t : SheafState A} (same : IsSameSheaf t s) where
-      pub same_left : length t.stalks < vertex_count t.graph
-      same_left = omega (arith, left, ap length same.stalks, ap (λ (H : Graph). vertex_count H) same.graph)
-
-      pub same_stalk : IsStalk t (next_vertex t) part.degrees part.lifts
-      same_stalk =
-          let K : Graph → ℕ → List Stalk → Type 0 = λ H d l.
-          let u : SheafState A = record { graph = H; field = t.field; degree = d; stalks = l } in
-          IsStalk u (next_vertex u) part.degrees part.lifts in
-          let own = built.own.is_stalk in
-          subst (λ H. K H t.degree t.stalks) (sym same.graph)
-          (subst (λ d. K s.graph d t.stalks) (sym same.degree)
-          (subst (λ l. K s.graph s.degree l) (sym same.stalks)
-          (record { rising = own.rising; bound = own.bound; counted = own.counted; fit = own.fit })))
+        pub same_stalk : IsStalk t (next_vertex t) part.degrees part.lifts
+        same_stalk =
+            let K : Graph → ℕ → List Stalk → Type 0 = λ H d l.
+            let u : SheafState A = record { graph = H; field = t.field; degree = d; stalks = l } in
+            IsStalk u (next_vertex u) part.degrees part.lifts in
+            let own = built.own.is_stalk in
+            subst (λ H. K H t.degree t.stalks) (sym same.graph)
+            (subst (λ d. K s.graph d t.stalks) (sym same.degree)
+            (subst (λ l. K s.graph s.degree l) (sym same.stalks)
+            (record { rising = own.rising; bound = own.bound; counted = own.counted; fit = own.fit })))

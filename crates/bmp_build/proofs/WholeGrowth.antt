@@ -51,8 +51,7 @@ module _ {A : Type 0} {s t : SheafState A} (same : IsSameSheaf s t) where
   pub there_above : {x : ℕ} → IsNext t x → AboveIsThere s x
   there_above {x = x} at y above =
       let is : IsGraph s.graph = subst IsGraph (sym same.graph) at.state.over.is_graph in
-      let higher = IsAbove-higher s.graph is y x (above_from_test s.graph x y above) in
-      (
+      let higher = IsAbove-higher s.graph is y x (above_from_test s.graph x y above) in (
         higher.is_vertex,
         omega (arith, higher.number, at.next, at.left, same_size, ap (λ (H : Graph). vertex_count H) same.graph),
       )
