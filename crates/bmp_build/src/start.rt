@@ -34,7 +34,7 @@ pub(crate) fn top_part(alloc: Global) -> Result<VertexPart, AllocError>
 
 /// Adds the stalk that a part writes down, at the greatest vertex whose stalk isn't there. Since it is one, memory
 /// alone can be wanting.
-fn push_part(sheaf: &mut Sheaf<PrimeField>, part: &VertexPart) -> Result<(), AllocError>
+pub(crate) fn push_part(sheaf: &mut Sheaf<PrimeField>, part: &VertexPart) -> Result<(), AllocError>
     requires left { length sheaf.old.stalks < vertex_count sheaf.old.graph }
     requires values { All (λ v. ValuesBelow v sheaf.old.graph.prime) part.now.lifts }
     requires stalk { IsStalk sheaf.old (next_vertex sheaf.old) part.now.degrees part.now.lifts }
