@@ -6,6 +6,7 @@ mod held;
 pub mod laws;
 mod level;
 mod level_parts;
+mod levels;
 mod start;
 mod version;
 mod whole;

@@ -11,7 +11,7 @@ ghost use Rattle.bmp_build.specs.BuiltGraphs.{top_part};
 ghost use Rattle.bmp_build.specs.Building.{IsBegun, IsTopFamily, HasEach};
 
 use bmp_cert::{Degrees, VertexPart};
-use bmp_field::PrimeField;
+use bmp_field::Field;
 use bmp_graph::MomentGraph;
 use bmp_levels::Family;
 use bmp_linear::{Blocks, Vectors};
@@ -34,7 +34,7 @@ pub(crate) fn top_part(alloc: Global) -> Result<VertexPart, AllocError>
 
 /// Adds the stalk that a part writes down, at the greatest vertex whose stalk isn't there. Since it is one, memory
 /// alone can be wanting.
-fn push_part(sheaf: &mut Sheaf<PrimeField>, part: &VertexPart) -> Result<(), AllocError>
+fn push_part<F: Field>(sheaf: &mut Sheaf<F>, part: &VertexPart) -> Result<(), AllocError>
     requires left { length sheaf.old.stalks < vertex_count sheaf.old.graph }
     requires values { All (λ v. ValuesBelow v sheaf.old.graph.prime) part.now.lifts }
     requires stalk { IsStalk sheaf.old (next_vertex sheaf.old) part.now.degrees part.now.lifts }
@@ -47,31 +47,29 @@ fn push_part(sheaf: &mut Sheaf<PrimeField>, part: &VertexPart) -> Result<(), All
     }
 }
 
-/// The sheaf on a graph, up to a degree, with the stalk of the greatest vertex alone.
-pub(crate) fn begun(
+/// The sheaf on a graph, over its field, up to a degree, with the stalk of the greatest vertex alone.
+pub(crate) fn begun<F: Field + Drop>(
     alloc: Global,
     graph: &MomentGraph,
+    field: F,
     degree: u32,
     part: &VertexPart,
-) -> Result<Sheaf<PrimeField>, AllocError>
+) -> Result<Sheaf<F>, AllocError>
     requires on { IsCheckableGraph graph.now }
+    requires prime { F.size field ≡ graph.now.prime }
     requires degree { degree ≤ 6 }
     requires top { part.now ≡ top_part }
     ensures { IfOk result (IsBegun graph.now degree) }
 {
-    let field = match PrimeField::new(graph.prime()) {
-        Ok(field) => field,
-        Err(_) => unreachable!(),
-    };
     let mut sheaf = Sheaf::new(alloc, graph, field, degree)?;
     push_part(&mut sheaf, part)?;
     Ok(sheaf)
 }
 
 /// The families over the greatest vertex, one for each degree.
-pub(crate) fn top_families(
+pub(crate) fn top_families<F: Field>(
     alloc: Global,
-    sheaf: &Sheaf<PrimeField>,
+    sheaf: &Sheaf<F>,
 ) -> Result<Vec<Family>, AllocError>
     requires { HasTop sheaf.now }
     ensures { IfOk result

@@ -7,10 +7,12 @@ ghost use Rattle.bmp_cert.specs.Versions.{IsVersionOf};
 ghost use Rattle.bmp_check.specs.Accepted.{IsCheckableGraph};
 ghost use Rattle.bmp_check.specs.Verdicts.{Passes};
 
-use crate::level::{build_level, counts_of, extend_families, next_length};
-use crate::start::{begun, top_families, top_part};
+use crate::levels::build_levels;
 use bmp_cert::{Accepted, Cert, Parts};
+use bmp_field::PrimeField;
 use bmp_graph::MomentGraph;
+use bmp_linear::DenseRows;
+use bmp_packed::{BitField, PackedRows};
 use std::alloc::{AllocError, Global};
 use std::thread::Threads;
 
@@ -18,7 +20,7 @@ use std::thread::Threads;
 /// vertex down, each stalk with its evidence for the families over the longer vertices. Whatever the graph is, the
 /// parts have lines of the version, which is 2 or 3, and no comparison of their verdict fails.
 ///
-/// The vertices are built in their order, whatever the number of workers is. Wants memory also where a number of
+/// The vertices are built in their order, whatever the number of workers is, modulo 2 in rows of bits. Wants memory also where a number of
 /// members or of coordinates would be 2^32 or more.
 pub fn build_graph(
     rt: &(impl Threads + Sync),
@@ -36,18 +38,16 @@ pub fn build_graph(
     ensures passes { IfOk result (λ parts. Passes graph.now version (record { degree = degree; parts = parts })) }
 {
     let _workers = workers;
-    let top = top_part(alloc)?;
-    let mut sheaf = begun(alloc, graph, degree, &top)?;
-    let mut families = top_families(alloc, &sheaf)?;
-    let mut parts = Parts::new(alloc);
-    parts.push(top)?;
-    'levels: while sheaf.pushed() < graph.vertices() {
-        let k = next_length(&sheaf);
-        let counts = counts_of(alloc, &families)?;
-        build_level(alloc, &mut sheaf, k, &families, &counts, &mut parts)?;
-        extend_families(&sheaf, k, &parts, &mut families)?;
+    if graph.prime() == 2 {
+        let rows = PackedRows::new(alloc, 0);
+        return build_levels(alloc, graph, BitField::new(), &rows, degree);
     }
-    Ok(parts)
+    let field = match PrimeField::new(graph.prime()) {
+        Ok(field) => field,
+        Err(_) => unreachable!(),
+    };
+    let rows = DenseRows::new(alloc, 0);
+    build_levels(alloc, graph, field, &rows, degree)
 }
 
 /// Builds a certificate by levels of an accepted job, of the version 2 where its lattice is plain, and else of 3. It is

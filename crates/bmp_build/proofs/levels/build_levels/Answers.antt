@@ -4,10 +4,9 @@ use Rattle.bmp_levels.specs.Runs.{FamilyTable}
 use Rattle.bmp_cert.specs.declared.cert.VertexPart.{VertexPart}
 use Rattle.bmp_build.specs.BuiltGraphs.{top_part}
 use Rattle.bmp_build.specs.Building.{last_length, IsBuiltDown, IsLevelThere, IsTopFamily, HasEach}
-use Rattle.bmp_build.proofs.AllPassing.{built_parts_pass}
 use Rattle.bmp_build.proofs.Beginning.{first_down}
 use Rattle.bmp_build.proofs.Downward.{pushed, next_in, level_begun, next_shorter, level_more, level_last, are_built}
-use Rattle.bmp_build.proofs.whole.build_graph.Goals as goal
+use Rattle.bmp_build.proofs.levels.build_levels.Goals as goal
 
 pub levels-init : goal.levels-init
 levels-init g c =
@@ -100,8 +99,8 @@ levels-preserved g c =
     level_last c.levels.parts c.requires.on.graph down (level_more c.levels.parts level left next) next in
     subst (λ n. IsBuiltDown G c.args.degree n n s parts items) (sym last) down
 
-pub returns-clause-formed : goal.returns-clause-formed
-returns-clause-formed g c =
+pub returns : goal.returns
+returns g c =
     let all : vertex_count c.args.graph.now ≤ length c.levels.parts =
     omega (
       arith,
@@ -110,18 +109,4 @@ returns-clause-formed g c =
       c.vertices.ensures.count,
       pushed c.levels.invariant,
     ) in
-    (built_parts_pass c.args.graph.now c.args.version (record { degree = c.args.degree; parts = c.levels.parts })
-    c.requires.on c.requires.degree c.requires.version (are_built c.levels.invariant all)).0
-
-pub returns-clause-passes : goal.returns-clause-passes
-returns-clause-passes g c =
-    let all : vertex_count c.args.graph.now ≤ length c.levels.parts =
-    omega (
-      arith,
-      c.levels-test.false,
-      c.pushed.ensures.count,
-      c.vertices.ensures.count,
-      pushed c.levels.invariant,
-    ) in
-    (built_parts_pass c.args.graph.now c.args.version (record { degree = c.args.degree; parts = c.levels.parts })
-    c.requires.on c.requires.degree c.requires.version (are_built c.levels.invariant all)).1
+    are_built c.levels.invariant all

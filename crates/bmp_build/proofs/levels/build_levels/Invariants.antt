@@ -1,7 +1,7 @@
 use Rattle.std.proofs.Common.{◌-◌, length}
 use Rattle.bmp_graph.specs.Graph.{vertex_count}
 use Rattle.bmp_build.specs.Building.{last_length, IsBuiltDown}
-use Rattle.bmp_build.proofs.whole.build_graph.Given as goal
+use Rattle.bmp_build.proofs.levels.build_levels.Given as goal
 
 -- the levels so far
 abbrev pub invariant-levels : goal.invariant-levels
