@@ -40,14 +40,16 @@ pub fn build_graph(
     let _workers = workers;
     if graph.prime() == 2 {
         let rows = PackedRows::new(alloc, 0);
-        return build_levels(alloc, graph, BitField::new(), &rows, degree);
+        let parts_of_bits = build_levels(alloc, graph, BitField::new(), &rows, degree)?;
+        return Ok(parts_of_bits);
     }
     let field = match PrimeField::new(graph.prime()) {
         Ok(field) => field,
         Err(_) => unreachable!(),
     };
     let rows = DenseRows::new(alloc, 0);
-    build_levels(alloc, graph, field, &rows, degree)
+    let parts = build_levels(alloc, graph, field, &rows, degree)?;
+    Ok(parts)
 }
 
 /// Builds a certificate by levels of an accepted job, of the version 2 where its lattice is plain, and else of 3. It is
