@@ -16,7 +16,7 @@ use Rattle.bmp_cert.specs.Versions.{IsVersionOf}
 use Rattle.bmp_check.specs.Accepted.{IsCheckableGraph}
 use Rattle.bmp_check.proofs.AcceptedLemmas.{job_is_checkable}
 use Rattle.bmp_build.specs.BuiltGraphs.{top_part}
-use Rattle.bmp_build.proofs.AllPassing.{top_lines}
+use Rattle.bmp_build.proofs.AllLines.{top_lines}
 use Rattle.bmp_build.proofs.KeptRules.{job_is_formed}
 
 pub most_version : (l : Lattice) (v : ℕ) → IsVersionOf l v → v ≤ 3

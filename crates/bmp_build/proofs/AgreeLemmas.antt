@@ -18,6 +18,7 @@ use Rattle.bmp_sheaf.specs.Sheaves.{SheafData, Boundary, boundary_of_element}
 use Rattle.bmp_sheaf.specs.Coordinates.{stalk_count, stalk_place, element_of, edge_module_count, leading, boundary_count}
 use Rattle.bmp_sheaf.specs.Numbers.{edge_number, on_edge, boundary_number, boundary_matrix}
 use Rattle.bmp_sections.specs.TupleLists.{TupleList}
+use Rattle.bmp_cover.specs.Counts.{generators_in}
 use Rattle.bmp_cover.specs.CoverChecks.{ComparesCover, ComparesSource, ComparesDual, CoverCompares, source_place}
 use Rattle.bmp_cover.specs.Evidence.{generator_place}
 use Rattle.bmp_cover.specs.declared.fault.CoverFault.{CoverFault}
@@ -64,6 +65,16 @@ module _ {G : Graph} {x : ℕ} {F F' : SheafData} (agree : AgreeAt G x F F') (d 
   counts_agree =
       sum_below_same (λ e. cond (eqb (lower G e) x) (edge_module_count G F d e) 0)
       (λ e. cond (eqb (lower G e) x) (edge_module_count G F' d e) 0) (edge_count G) sizes_agree
+
+  -- the numbers of coordinates and of generators, back
+  pub own_count : stalk_count G.rank (F'.degrees x) d ≡ stalk_count G.rank (F.degrees x) d
+  own_count = ap (λ o. stalk_count G.rank o d) (sym agree.own)
+
+  pub own_boundary : boundary_count G F' x d ≡ boundary_count G F x d
+  own_boundary = sym counts_agree
+
+  pub own_generators : generators_in F' x d ≡ generators_in F x d
+  own_generators = ap (λ o. count_by (λ e. eqb e d) o) (sym agree.own)
 
   -- a place on an edge is on one that goes up from x
   from_here : (e i : ℕ) → i < cond (eqb (lower G e) x) (edge_module_count G F d e) 0 → lower G e ≡ x

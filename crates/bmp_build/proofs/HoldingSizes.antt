@@ -4,9 +4,13 @@ use Rattle.std.specs.List.{All}
 use Rattle.std.proofs.lemmas.Bool.{le-leb}
 use Rattle.std.proofs.lemmas.List.Elements.{All-head, All-tail}
 use Rattle.bmp_linear.specs.declared.vector.Entry.{Entry}
+use Rattle.bmp_linear.specs.declared.evidence.CoverEvidence.{CoverEvidence}
+use Rattle.bmp_linear.specs.declared.evidence.KernelEvidence.{KernelEvidence}
+use Rattle.bmp_linear.specs.Evidence.{EvidenceFits}
 use Rattle.bmp_linear.specs.SparseVectors.{FitsBelow}
 use Rattle.bmp_check.specs.Comparisons.{first_failure}
-use Rattle.bmp_check.specs.Sizes.{Size, need, need_of_places, listed, each_at_most, size_comparison, numbered}
+use Rattle.bmp_check.specs.declared.sizes.BlockSizes.{BlockSizes}
+use Rattle.bmp_check.specs.Sizes.{Size, need, need_of_places, listed, each_at_most, pivot_sizes, kernel_sizes, cover_sizes, size_comparison, numbered}
 use Rattle.bmp_check.proofs.SizeCheckLemmas.{first_passes}
 
 abbrev pub Holds : Bool → ℕ → ℕ → Type 0
@@ -61,3 +65,22 @@ pub listed_hold : (f : ℕ → Size) (n : ℕ) → ((i : ℕ) → i < n → Hold
 listed_hold f zero h = tt
 listed_hold f (suc n) h =
     hold_both (listed f n) (f n ∷ []) (listed_hold f n (λ i l. h i (omega arith))) (h n (omega arith), tt)
+
+-- ---- of evidence
+
+pub pivots_hold : (n : BlockSizes) (e : KernelEvidence) → EvidenceFits e n.rows n.columns → AllHold (pivot_sizes n e)
+pivots_hold n e fits = (fits.in_all, (need_from_below e.pivots n.columns fits.pivots_below, tt))
+
+pub kernel_holds : (n : BlockSizes) (e : KernelEvidence) → EvidenceFits e n.rows n.columns → AllHold (kernel_sizes n e)
+kernel_holds n e fits =
+    hold_both (each_at_most e.basis n.columns) (each_at_most e.rows n.rows)
+    (each_holds e.basis n.columns fits.basis_fits) (each_holds e.rows n.rows fits.rows_fit)
+
+pub covers_hold :
+    (n : BlockSizes) (e : CoverEvidence) → All (λ v. FitsBelow v n.stalk) e.covers →
+    All (λ v. FitsBelow v n.tuples) e.sources → All (λ v. FitsBelow v n.boundary) e.duals → AllHold (cover_sizes n e)
+covers_hold n e covers sources duals =
+    hold_both (each_at_most e.covers n.stalk) (each_at_most e.sources n.tuples ++ each_at_most e.duals n.boundary)
+    (each_holds e.covers n.stalk covers)
+    (hold_both (each_at_most e.sources n.tuples) (each_at_most e.duals n.boundary)
+    (each_holds e.sources n.tuples sources) (each_holds e.duals n.boundary duals))

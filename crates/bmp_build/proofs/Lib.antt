@@ -1,8 +1,10 @@
 pub mod AgreeLemmas
 pub mod HoldingSizes
 pub mod Lines
+pub mod VertexStalks
 pub mod PassingBlocks
 pub mod BuiltVertices
+pub mod AllLines
 pub mod AllPassing
 pub mod HeldLemmas
 pub mod Gaps
@@ -11,3 +13,9 @@ pub mod Extending
 pub mod Beginning
 pub mod KeptRules
 pub mod Accepting
+pub mod WholeBlocks
+pub mod WholeGrowth
+pub mod WholeVertices
+pub mod WholePassing
+pub mod WholeDown
+pub mod WholeSizes

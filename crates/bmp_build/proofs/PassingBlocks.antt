@@ -24,11 +24,11 @@ use Rattle.bmp_levels.proofs.Comparing.{comparisons_agree}
 use Rattle.bmp_cert.specs.BlockGrammar.{IsBlock}
 use Rattle.bmp_check.specs.declared.sizes.BlockSizes.{BlockSizes}
 use Rattle.bmp_check.specs.declared.method.Method.TheVariants.{Levels}
-use Rattle.bmp_check.specs.Sizes.{is, each_at_most, pivot_sizes, kernel_sizes, cover_sizes, last_size, sizes_of_block}
+use Rattle.bmp_check.specs.Sizes.{is, pivot_sizes, kernel_sizes, cover_sizes, last_size, sizes_of_block}
 use Rattle.bmp_stalk.specs.BuiltParts.{IsBuiltBlock}
 use Rattle.bmp_build.specs.BuiltGraphs.{IsHeldBlock}
-use Rattle.bmp_build.proofs.AgreeLemmas.{AgreeAt, counts_agree, matrices_agree, comparisons_agree_at}
-use Rattle.bmp_build.proofs.HoldingSizes.{AllHold, hold_both, each_holds, need_from_below}
+use Rattle.bmp_build.proofs.AgreeLemmas.{AgreeAt, own_count, own_boundary, own_generators, matrices_agree, comparisons_agree_at}
+use Rattle.bmp_build.proofs.HoldingSizes.{AllHold, hold_both, pivots_hold, kernel_holds, covers_hold}
 use Rattle.bmp_build.proofs.Lines.{vectors_lines, places_lines}
 
 abbrev pub coordinates : Graph → SheafData → ℕ → ℕ → ℕ
@@ -84,15 +84,6 @@ built_passes built = record {
 
 module _ {G : Graph} {x : ℕ} {F F' : SheafData} (agree : AgreeAt G x F F') {d : ℕ} {list : TupleList} {b : DegreeBlock}
     (passes : PassesAt G F' x d list b) where
-  own_count : coordinates G F' x d ≡ coordinates G F x d
-  own_count = ap (λ o. stalk_count G.rank o d) (sym agree.own)
-
-  boundary : boundary_count G F' x d ≡ boundary_count G F x d
-  boundary = sym (counts_agree agree d)
-
-  own_generators : generators_in F' x d ≡ generators_in F x d
-  own_generators = ap (λ o. count_by (λ e. eqb e d) o) (sym agree.own)
-
   pub passes_there : PassesAt G F x d list b
   passes_there = record {
     fits = record {
@@ -101,16 +92,16 @@ module _ {G : Graph} {x : ℕ} {F F' : SheafData} (agree : AgreeAt G x F F') {d 
       kernel =
           kernel_passes_same (matrices_agree agree d) G.prime b.kernel passes.fits.kernel_fits passes.fits.kernel;
       covers = passes.fits.covers;
-      sources = passes.fits.sources ∙ own_generators;
-      duals = passes.fits.duals ∙ own_generators;
-      covers_fit = subst (λ n. All (λ v. FitsBelow v n) b.cover.covers) own_count passes.fits.covers_fit;
+      sources = passes.fits.sources ∙ own_generators agree d;
+      duals = passes.fits.duals ∙ own_generators agree d;
+      covers_fit = subst (λ n. All (λ v. FitsBelow v n) b.cover.covers) (own_count agree d) passes.fits.covers_fit;
       sources_fit = passes.fits.sources_fit;
-      duals_fit = subst (λ n. All (λ v. FitsBelow v n) b.cover.duals) boundary passes.fits.duals_fit;
+      duals_fit = subst (λ n. All (λ v. FitsBelow v n) b.cover.duals) (own_boundary agree d) passes.fits.duals_fit;
       covers_below = passes.fits.covers_below;
       sources_below = passes.fits.sources_below;
       duals_below = passes.fits.duals_below;
-      few = subst (λ n. n < 2 ^ 32) own_count passes.fits.few;
-      few_on_boundary = subst (λ n. n < 2 ^ 32) boundary passes.fits.few_on_boundary;
+      few = subst (λ n. n < 2 ^ 32) (own_count agree d) passes.fits.few;
+      few_on_boundary = subst (λ n. n < 2 ^ 32) (own_boundary agree d) passes.fits.few_on_boundary;
     };
     cover = λ r compares. passes.cover r (comparisons_agree_at agree d list b.cover r compares);
   }
@@ -139,34 +130,17 @@ module _ {G : Graph} {F : SheafData} {x d count : ℕ} {b : DegreeBlock} (fits :
     tuples = count;
   }
 
-  kernel_hold : AllHold (kernel_sizes sizes b.kernel)
-  kernel_hold =
-      hold_both (each_at_most b.kernel.basis (coordinates G F x d))
-      (each_at_most b.kernel.rows (boundary_count G F x d))
-      (each_holds b.kernel.basis (coordinates G F x d) fits.kernel_fits.basis_fits)
-      (each_holds b.kernel.rows (boundary_count G F x d) fits.kernel_fits.rows_fit)
-
-  cover_hold : AllHold (cover_sizes sizes b.cover)
-  cover_hold =
-      hold_both (each_at_most b.cover.covers (coordinates G F x d))
-      (each_at_most b.cover.sources count ++ each_at_most b.cover.duals (boundary_count G F x d))
-      (each_holds b.cover.covers (coordinates G F x d) fits.covers_fit)
-      (hold_both (each_at_most b.cover.sources count) (each_at_most b.cover.duals (boundary_count G F x d))
-      (each_holds b.cover.sources count fits.sources_fit)
-      (each_holds b.cover.duals (boundary_count G F x d) fits.duals_fit))
-
   pub sizes_hold : AllHold (sizes_of_block Levels sizes b)
   sizes_hold =
       hold_both (is (length b.cover.covers) count ∷ [])
       (pivot_sizes sizes b.kernel ++ (cover_sizes sizes b.cover ++ (kernel_sizes sizes b.kernel ++ last_size sizes)))
       (fits.covers, tt)
       (hold_both (pivot_sizes sizes b.kernel)
-      (cover_sizes sizes b.cover ++ (kernel_sizes sizes b.kernel ++ last_size sizes)) (
-        fits.kernel_fits.in_all,
-        (need_from_below b.kernel.pivots (coordinates G F x d) fits.kernel_fits.pivots_below, tt),
-      )
-      (hold_both (cover_sizes sizes b.cover) (kernel_sizes sizes b.kernel ++ last_size sizes) cover_hold
-      (hold_both (kernel_sizes sizes b.kernel) (last_size sizes) kernel_hold
+      (cover_sizes sizes b.cover ++ (kernel_sizes sizes b.kernel ++ last_size sizes))
+      (pivots_hold sizes b.kernel fits.kernel_fits)
+      (hold_both (cover_sizes sizes b.cover) (kernel_sizes sizes b.kernel ++ last_size sizes)
+      (covers_hold sizes b.cover fits.covers_fit fits.sources_fit fits.duals_fit)
+      (hold_both (kernel_sizes sizes b.kernel) (last_size sizes) (kernel_holds sizes b.kernel fits.kernel_fits)
       (omega (arith, fits.few, fits.few_on_boundary), tt))))
 
   pub block_lines : (version : ℕ) → 2 ≤ version → (at : ℕ → ℕ) → generators_in F x d ≡ at d → IsHeldBlock b →

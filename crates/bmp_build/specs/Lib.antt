@@ -1,2 +1,3 @@
 pub mod BuiltGraphs
 pub mod Building
+pub mod WholeSpaces

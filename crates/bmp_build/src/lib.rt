@@ -1,5 +1,5 @@
-//! Certificates by levels, built: for each vertex of a moment graph the stalk and its evidence, such that no comparison
-//! of the verdict fails.
+//! Certificates, built: for each vertex of a moment graph the stalk and its evidence, by levels or by whole spaces of
+//! sections, such that no comparison of the verdict fails.
 #![tactic(auto)]
 
 mod held;
@@ -10,6 +10,9 @@ mod levels;
 mod start;
 mod version;
 mod whole;
+mod whole_space;
+mod whole_spaces;
+mod whole_stalk;
 
 pub use version::level_version;
 pub use whole::{build, build_graph};

@@ -1,4 +1,4 @@
-//! The parts of all vertices of a moment graph, and the certificate of an accepted job, by levels.
+//! The parts of all vertices of a moment graph, and the certificate of an accepted job.
 ghost use Rattle.std.specs.Prelude.{◌≡◌, ◌≤◌, ◌-◌, IfOk};
 ghost use Rattle.bmp_cert.specs.CertGrammar.{HavePartLines, IsWellFormed};
 ghost use Rattle.bmp_cert.specs.Counts.{written_by};
@@ -8,20 +8,22 @@ ghost use Rattle.bmp_check.specs.Accepted.{IsCheckableGraph};
 ghost use Rattle.bmp_check.specs.Verdicts.{Passes};
 
 use crate::levels::build_levels;
+use crate::start::field_of;
+use crate::whole_spaces::build_spaces;
 use bmp_cert::{Accepted, Cert, Parts};
-use bmp_field::PrimeField;
 use bmp_graph::MomentGraph;
 use bmp_linear::DenseRows;
 use bmp_packed::{BitField, PackedRows};
 use std::alloc::{AllocError, Global};
 use std::thread::Threads;
 
-/// Builds the parts of all vertices of a moment graph, up to a degree, with evidence by levels: from the greatest
-/// vertex down, each stalk with its evidence for the families over the longer vertices. Whatever the graph is, the
-/// parts have lines of the version, which is 2 or 3, and no comparison of their verdict fails.
+/// Builds the parts of all vertices of a moment graph, up to a degree: from the greatest vertex down, each stalk with
+/// its evidence, in version 1 for the whole spaces of sections over the vertices above, and in the versions 2 and 3 for
+/// the families over the longer vertices. Whatever the graph is, the parts have lines of the version, and no comparison
+/// of their verdict fails.
 ///
-/// The vertices are built in their order, whatever the number of workers is, modulo 2 in rows of bits. Wants memory also where a number of
-/// members or of coordinates would be 2^32 or more.
+/// The vertices are built in their order, whatever the number of workers is, by levels modulo 2 in rows of bits. Wants
+/// memory also where a number of members or of coordinates would be 2^32 or more.
 pub fn build_graph(
     rt: &(impl Threads + Sync),
     alloc: Global,
@@ -32,28 +34,28 @@ pub fn build_graph(
 ) -> Result<Parts, AllocError>
     requires on { IsCheckableGraph graph.now }
     requires degree { degree ≤ 6 }
-    requires version { (2 ≤ version) × (version ≤ 3) }
+    requires version { (1 ≤ version) × (version ≤ 3) }
     requires workers { (1 ≤ workers) × (workers ≤ 32) }
     ensures formed { IfOk result (HavePartLines version (graph.now.prime - 1) degree) }
     ensures passes { IfOk result (λ parts. Passes graph.now version (record { degree = degree; parts = parts })) }
 {
     let _workers = workers;
+    if version == 1 {
+        let spaces = build_spaces(alloc, graph, degree)?;
+        return Ok(spaces);
+    }
     if graph.prime() == 2 {
         let rows = PackedRows::new(alloc, 0);
         let parts_of_bits = build_levels(alloc, graph, BitField::new(), &rows, degree)?;
         return Ok(parts_of_bits);
     }
-    let field = match PrimeField::new(graph.prime()) {
-        Ok(field) => field,
-        Err(_) => unreachable!(),
-    };
     let rows = DenseRows::new(alloc, 0);
-    let parts = build_levels(alloc, graph, field, &rows, degree)?;
+    let parts = build_levels(alloc, graph, field_of(graph), &rows, degree)?;
     Ok(parts)
 }
 
-/// Builds a certificate by levels of an accepted job, of the version 2 where its lattice is plain, and else of 3. It is
-/// well formed, and no comparison of its verdict fails.
+/// Builds a certificate of an accepted job, of the version 1 or 2 where its lattice is plain, and else of 3. It is well
+/// formed, and no comparison of its verdict fails.
 pub fn build(
     rt: &(impl Threads + Sync),
     alloc: Global,
@@ -62,7 +64,6 @@ pub fn build(
     workers: u32,
 ) -> Result<Cert, AllocError>
     requires version { IsVersionOf (job_of (prepared_of a.now)).lattice version }
-    requires levels { 2 ≤ version }
     requires workers { (1 ≤ workers) × (workers ≤ 32) }
     ensures version { IfOk result (λ c. c.version ≡ version) }
     ensures job { IfOk result (λ c. c.job ≡ job_of (prepared_of a.now)) }
