@@ -3,7 +3,6 @@ use Rattle.std.proofs.Common.{◌≡◌, ℕ, ◌+◌, ◌-◌, ◌<◌, ◌≤�
 use Rattle.std.proofs.lemmas.Bool.{cases_eq, cond-false}
 use Rattle.std.proofs.lemmas.List.{get_or_append_left, get_or_push}
 use Rattle.bmp_math.proofs.SumLemmas.{sum_below_same, sum_below-zeros}
-use Rattle.bmp_field.specs.declared.prime.PrimeField.{PrimeField}
 use Rattle.bmp_graph.specs.Graph.{Graph, IsGraph, vertex_count, edge_count, length_at, lower, upper}
 use Rattle.bmp_graph.proofs.GraphLemmas.{edge_rises}
 use Rattle.bmp_sheaf.specs.Coordinates.{stalk_count}
@@ -57,7 +56,7 @@ no_edges_up G is =
     (ne_eqb (lower G e) (top_vertex G) (λ same. omega (arith, same, rises, within))))
     ∙ sum_below-zeros (edge_count G)
 
-pub top_is_stalk : {s : SheafState PrimeField} → IsGraph s.graph → s.stalks ≡ [] →
+pub top_is_stalk : {A : Type 0} {s : SheafState A} → IsGraph s.graph → s.stalks ≡ [] →
     IsStalk s (next_vertex s) top_part.degrees top_part.lifts
 top_is_stalk {s = s} is none =
     let first : next_vertex s ≡ top_vertex s.graph = omega (arith, ap length none) in
@@ -70,7 +69,7 @@ top_is_stalk {s = s} is none =
       fit = λ i within. absurd (omega (arith, within));
     }
 
-module _ {G : Graph} {D : ℕ} {s : SheafState PrimeField} (on : IsCheckableGraph G) (begun : IsBegun G D s) where
+module _ {A : Type 0} {G : Graph} {D : ℕ} {s : SheafState A} (on : IsCheckableGraph G) (begun : IsBegun G D s) where
   pub has_top : HasTop s
   has_top =
       let none : vertex_count s.graph - 1 - (vertex_count s.graph - 1) ≡ 0 = omega arith in

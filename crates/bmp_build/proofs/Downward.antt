@@ -6,7 +6,6 @@ use Rattle.std.proofs.Math.ListN.{get_or-map}
 use Rattle.std.proofs.lemmas.Bool.{cases_lt}
 use Rattle.std.proofs.lemmas.List.{length-map, length-append, length-replicate, length_push, length-take-le, get_or-take, get_or_push, get_or_append_left, get_or-append_right, get_or-replicate, take_at, take_all, take_more, map-append}
 use Rattle.std.proofs.lemmas.List.Elements.{All-nil}
-use Rattle.bmp_field.specs.declared.prime.PrimeField.{PrimeField}
 use Rattle.bmp_graph.specs.Graph.{Graph, IsGraph, vertex_count, length_at}
 use Rattle.bmp_graph.proofs.GraphLemmas.{IsAbove-higher}
 use Rattle.bmp_linear.specs.declared.vector.Entry.{Entry}
@@ -65,7 +64,7 @@ module _ {G : Graph} {D : ℕ} {parts : List VertexPart} where
       }
 
 -- the stalk of a part that is there, and its size
-module _ {G : Graph} {D : ℕ} (s : SheafState PrimeField) {parts : List VertexPart} (graph : s.graph ≡ G)
+module _ {A : Type 0} {G : Graph} {D : ℕ} (s : SheafState A) {parts : List VertexPart} (graph : s.graph ≡ G)
     (stalks : s.stalks ≡ map cert_stalk parts) where
   pub stalk_in : {c : Written} → Continues G D parts c → (y : ℕ) → y < vertex_count G →
       vertex_count G ≤ y + length parts → stalk_of s y ≡ cert_stalk (part_of c y)
@@ -82,7 +81,7 @@ module _ {G : Graph} {D : ℕ} (s : SheafState PrimeField) {parts : List VertexP
 -- ---- a state on the way
 
 module _
-    {G : Graph} {D level low : ℕ} {s : SheafState PrimeField} {parts : List VertexPart} {families : List FamilyTable}
+    {A : Type 0} {G : Graph} {D level low : ℕ} {s : SheafState A} {parts : List VertexPart} {families : List FamilyTable}
     (h : IsBuiltDown G D level low s parts families) where
   pub own_down : IsBuiltDown s.graph s.degree level low s parts families
   own_down =
@@ -151,7 +150,7 @@ module _
 
 -- the length of the next vertex
 pub next_in :
-    {G : Graph} {D level low k : ℕ} {s : SheafState PrimeField} {parts : List VertexPart} {families : List FamilyTable}
+    {A : Type 0} {G : Graph} {D level low k : ℕ} {s : SheafState A} {parts : List VertexPart} {families : List FamilyTable}
     → IsBuiltDown G D level low s parts families → k ≡ length_at s.graph (next_vertex s) →
     k ≡ length_at G (vertex_count G - 1 - length parts)
 next_in {G = G} {k = k} {s = s} {parts = parts} h is =
@@ -162,12 +161,12 @@ next_in {G = G} {k = k} {s = s} {parts = parts} h is =
 -- ---- the end
 
 module _
-    {G : Graph} {D level low : ℕ} {s : SheafState PrimeField} {parts : List VertexPart} {families : List FamilyTable}
+    {A : Type 0} {G : Graph} {D level low : ℕ} {s : SheafState A} {parts : List VertexPart} {families : List FamilyTable}
     (h : IsBuiltDown G D level low s parts families) (all : vertex_count G ≤ length parts) where
   all_there : length parts ≡ vertex_count G
   all_there = omega (arith, all, h.few)
 
-  pub are_built : AreBuilt PrimeField G (record { degree = D; parts = parts })
+  pub are_built : AreBuilt A G (record { degree = D; parts = parts })
   are_built =
       let c : Written = record { degree = D; parts = parts } in
       let first : length parts - 1 - (vertex_count G - 1) ≡ 0 = omega (arith, all_there) in
@@ -192,7 +191,7 @@ level_more {G = G} parts level left next =
     let there = level.there (vertex_count G - 1 - length parts) (omega (arith, left)) (omega (arith, next)) in
     omega (arith, there, left)
 
-module _ {G : Graph} {D k : ℕ} {s : SheafState PrimeField} {parts : List VertexPart} {families : List FamilyTable} where
+module _ {A : Type 0} {G : Graph} {D k : ℕ} {s : SheafState A} {parts : List VertexPart} {families : List FamilyTable} where
   -- the next vertex has length k
   module _ {level : ℕ} (is : IsGraph G) (h : IsBuiltDown G D level level s parts families)
       (left : length parts < vertex_count G) (next : k ≡ length_at G (vertex_count G - 1 - length parts)) where
@@ -295,7 +294,7 @@ module _ {G : Graph} {D k : ℕ} {s : SheafState PrimeField} {parts : List Verte
 -- ---- one vertex more, of the length below the level
 
 module _
-    {G : Graph} {D k : ℕ} {s : SheafState PrimeField} {parts : List VertexPart} {families : List FamilyTable}
+    {A : Type 0} {G : Graph} {D k : ℕ} {s : SheafState A} {parts : List VertexPart} {families : List FamilyTable}
     (on : IsCheckableGraph G) (h : IsBuiltDown G D (suc k) k s parts families)
     (left : length s.stalks < vertex_count s.graph) (here : length_at s.graph (next_vertex s) ≡ k) {counts : List ℕ}
     (counted : AreCounts families counts) where
@@ -339,13 +338,13 @@ module _
         };
   }
 
-  module _ {new : SheafState PrimeField} {part : VertexPart} (built : IsBuiltPart s new (list_at families counts) part)
+  module _ {new : SheafState A} {part : VertexPart} (built : IsBuiltPart s new (list_at families counts) part)
       (held : IsHeldPart part) where
     one_more : length (parts ++ part ∷ []) ≡ length parts + 1
     one_more = length_push parts part
 
     -- the part of the vertex
-    at_vertex : IsBuiltIn G D (parts ++ part ∷ []) (vertex_count G - 1 - length parts)
+    at_vertex : IsBuiltIn A G D (parts ++ part ∷ []) (vertex_count G - 1 - length parts)
     at_vertex = record {
       built = λ c more.
           let fewer : Continues G D parts c = continues_fewer part more_left more in
@@ -387,7 +386,7 @@ module _
         let old = h.families d within in
         let t = cert_stalk part in
         record {
-          holds = subst (λ (u : SheafState PrimeField). HoldsLevel u (suc k) d (get_or families d no_family))
+          holds = subst (λ (u : SheafState A). HoldsLevel u (suc k) d (get_or families d no_family))
               (sym built.stalk)
               (record {
                 vertices = old.holds.vertices;
@@ -406,10 +405,10 @@ module _
 
     pub down_more : IsBuiltDown G D (suc k) k new (parts ++ part ∷ []) families
     down_more = record {
-      graph = ap (λ (u : SheafState PrimeField). u.graph) built.stalk ∙ h.graph;
-      degree = ap (λ (u : SheafState PrimeField). u.degree) built.stalk ∙ h.degree;
+      graph = ap (λ (u : SheafState A). u.graph) built.stalk ∙ h.graph;
+      degree = ap (λ (u : SheafState A). u.degree) built.stalk ∙ h.degree;
       stalks =
-          ap (λ (u : SheafState PrimeField). u.stalks) built.stalk
+          ap (λ (u : SheafState A). u.stalks) built.stalk
           ∙ ap (λ (l : List Stalk). l ++ cert_stalk part ∷ []) h.stalks ∙ sym (map-append cert_stalk parts (part ∷ []));
       some = omega (arith, one_more);
       few = omega (arith, one_more, more_left);
@@ -424,7 +423,7 @@ module _
       vertices = λ y vertex there. elim (cases_lt (y + length parts) (vertex_count G)) [
         | inl last ↦
             let is : y ≡ vertex_count G - 1 - length parts = omega (arith, last, there, one_more) in
-            subst (IsBuiltIn G D (parts ++ part ∷ [])) (sym is) at_vertex
+            subst (IsBuiltIn A G D (parts ++ part ∷ [])) (sym is) at_vertex
         | inr before ↦ record {
           built = λ c more. (h.vertices y vertex before).built c (continues_fewer part more_left more);
         }

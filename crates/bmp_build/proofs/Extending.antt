@@ -5,7 +5,6 @@ use Rattle.std.specs.Prelude.{All}
 use Rattle.std.specs.List.{remove}
 use Rattle.std.proofs.lemmas.Bool.{cases_eq, and_from, lt-ltb}
 use Rattle.std.proofs.lemmas.List.{get_or_append_left, get_or_push, get_or_default, length_push}
-use Rattle.bmp_field.specs.declared.prime.PrimeField.{PrimeField}
 use Rattle.bmp_graph.specs.Graph.{Graph, vertex_count, length_at}
 use Rattle.bmp_linear.specs.declared.blocks.DegreeBlock.{DegreeBlock}
 use Rattle.bmp_linear.specs.SparseVectors.{FitsBelow}
@@ -68,7 +67,7 @@ module _ {G : Graph} {d : ℕ} {parts : List VertexPart} {b : LevelParts} (of : 
 -- ---- one degree
 
 module _
-    {G : Graph} {D k : ℕ} {s : SheafState PrimeField} {parts : List VertexPart} {families : List FamilyTable}
+    {A : Type 0} {G : Graph} {D k : ℕ} {s : SheafState A} {parts : List VertexPart} {families : List FamilyTable}
     (on : IsCheckableGraph G) (h : IsBuiltDown G D (suc k) k s parts families) (all : IsLevelThere G k parts)
     (short : k < length_at G (top_vertex G)) {d : ℕ} (within : d ≤ D) {f : FamilyTable}
     (hold : HoldsFamily G D (suc k) parts s d f) {b : LevelParts} (of : IsOfParts G parts d b) where
@@ -77,7 +76,7 @@ module _
   block_fits x below here =
       let there = all.there x below (omega (arith, here)) in
       let vertex : x + 1 < vertex_count G = not_greatest G x below (omega (arith, here, short)) in
-      let at : IsBuiltAt PrimeField G (filled h) x = (h.vertices x vertex there).built (filled h) (continues h) in
+      let at : IsBuiltAt A G (filled h) x = (h.vertices x vertex there).built (filled h) (continues h) in
       let fits = (passes_at on (continues h).counted vertex at d within).fits in
       let own = block_of (filled h) x d in
       let size : stalk_size s.graph (sheaf_of s) d x ≡ stalk_size G (parts_sheaf G (filled h)) d x =
@@ -197,7 +196,7 @@ module _ {P Q : ℕ → FamilyTable → Type 0} {n d : ℕ} {items : List Family
       })
 
 module _
-    {G : Graph} {D k : ℕ} {s : SheafState PrimeField} {parts : List VertexPart} {families : List FamilyTable}
+    {A : Type 0} {G : Graph} {D k : ℕ} {s : SheafState A} {parts : List VertexPart} {families : List FamilyTable}
     (h : IsBuiltDown G D (suc k) k s parts families) (all : IsLevelThere G k parts) where
   abbrev OldFamily : ℕ → FamilyTable → Type 0
   OldFamily = HoldsFamily G D (suc k) parts s

@@ -1,6 +1,6 @@
 -- What is built on the way down a moment graph, level by level. In the order to read:
 --   Continues G D parts c       c has the degree bound D and a part for each vertex of G, and begins with these parts
---   IsBuiltIn G D parts x       the part of x was built, whatever parts come behind these
+--   IsBuiltIn A G D parts x       the part of x was built, whatever parts come behind these
 --   HoldsFamily .. s d f        f is, in memory, the family of degree d over a level, whatever parts come behind these
 --   IsBuiltDown G D level low s parts members
 --                               the parts of the vertices of length at least `level` are there, and of others of length
@@ -14,7 +14,6 @@
 --   IsTopFamily s d f           f is the family of degree d over the greatest vertex
 --   HasEach P n fs              there are n families, and of each degree one with P
 use Rattle.std.specs.Prelude.{◌≡◌, ℕ, ◌+◌, ◌-◌, ◌<◌, ◌≤◌, nat_lt, Bool, ◌&&◌, List, [], ◌∷◌, length, map, take, slice_index, slice_index_or}
-use Rattle.bmp_field.specs.declared.prime.PrimeField.{PrimeField}
 use Rattle.bmp_graph.specs.Graph.{Graph, vertex_count, length_at}
 use Rattle.bmp_linear.specs.declared.blocks.DegreeBlock.{DegreeBlock}
 use Rattle.bmp_sheaf.specs.States.{SheafState, sheaf_of}
@@ -37,10 +36,10 @@ pub record Continues (G : Graph) (D : ℕ) (parts : List VertexPart) (c : Writte
   pub counted : length c.parts ≡ vertex_count G
   pub begins : take (length parts) c.parts ≡ parts
 
-pub record IsBuiltIn (G : Graph) (D : ℕ) (parts : List VertexPart) (x : ℕ) : Type 0 where
-  pub built : (c : Written) → Continues G D parts c → IsBuiltAt PrimeField G c x
+pub record IsBuiltIn (A : Type 0) (G : Graph) (D : ℕ) (parts : List VertexPart) (x : ℕ) : Type 0 where
+  pub built : (c : Written) → Continues G D parts c → IsBuiltAt A G c x
 
-pub record HoldsFamily (G : Graph) (D level : ℕ) (parts : List VertexPart) (s : SheafState PrimeField) (d : ℕ)
+pub record HoldsFamily (G : Graph) (D level : ℕ) (parts : List VertexPart) {A : Type 0} (s : SheafState A) (d : ℕ)
     (f : FamilyTable) : Type 0 where
   pub holds : HoldsLevel s level d f
   pub same :
@@ -48,7 +47,7 @@ pub record HoldsFamily (G : Graph) (D level : ℕ) (parts : List VertexPart) (s 
       SameList (level_vertices G level) (list_of f)
       (family G (parts_sheaf G c) d (top_vertex G) (λ y. block_of c y d) level)
 
-pub record IsBuiltDown (G : Graph) (D level low : ℕ) (s : SheafState PrimeField) (parts : List VertexPart)
+pub record IsBuiltDown (G : Graph) (D level low : ℕ) {A : Type 0} (s : SheafState A) (parts : List VertexPart)
     (members : List FamilyTable) : Type 0 where
   pub graph : s.graph ≡ G
   pub degree : s.degree ≡ D
@@ -58,7 +57,7 @@ pub record IsBuiltDown (G : Graph) (D level low : ℕ) (s : SheafState PrimeFiel
   pub top : slice_index_or parts 0 no_part ≡ top_part
   pub there : (y : ℕ) → y < vertex_count G → level ≤ length_at G y → vertex_count G ≤ y + length parts
   pub only : (y : ℕ) → y < vertex_count G → vertex_count G ≤ y + length parts → low ≤ length_at G y
-  pub vertices : (x : ℕ) → x + 1 < vertex_count G → vertex_count G ≤ x + length parts → IsBuiltIn G D parts x
+  pub vertices : (x : ℕ) → x + 1 < vertex_count G → vertex_count G ≤ x + length parts → IsBuiltIn A G D parts x
   pub sized : length members ≡ D + 1
   pub families :
       (d : ℕ) → d ≤ D → HoldsFamily G D level parts s d (slice_index_or members d no_family)
@@ -86,12 +85,12 @@ module _ (b : LevelParts) (x : ℕ) where
   abbrev pub block_at : DegreeBlock
   block_at = slice_index_or own.blocks b.degree no_block
 
-pub record IsBegun (G : Graph) (D : ℕ) (s : SheafState PrimeField) : Type 0 where
+pub record IsBegun (G : Graph) (D : ℕ) {A : Type 0} (s : SheafState A) : Type 0 where
   pub graph : s.graph ≡ G
   pub degree : s.degree ≡ D
   pub stalks : s.stalks ≡ cert_stalk top_part ∷ []
 
-pub record IsTopFamily (s : SheafState PrimeField) (d : ℕ) (f : FamilyTable) : Type 0 where
+pub record IsTopFamily {A : Type 0} (s : SheafState A) (d : ℕ) (f : FamilyTable) : Type 0 where
   pub holds : HoldsLevel s (length_at s.graph (top_vertex s.graph)) d f
   pub same :
       SameList (level_vertices s.graph (length_at s.graph (top_vertex s.graph))) (list_of f)

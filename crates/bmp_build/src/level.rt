@@ -8,8 +8,9 @@ ghost use Rattle.bmp_build.specs.Building.{IsBuiltDown, IsLevelThere, AreCounts}
 use crate::held::read_part;
 use crate::level_parts::LevelParts;
 use bmp_cert::Parts;
-use bmp_field::PrimeField;
+use bmp_field::Field;
 use bmp_levels::Family;
+use bmp_linear::RowSpace;
 use bmp_sheaf::Sheaf;
 use bmp_stalk::build_stalk;
 use std::alloc::{AllocError, Global};
@@ -27,7 +28,7 @@ pub(crate) fn counts_of(alloc: Global, families: &[Family]) -> Result<Vec<u32>, 
 }
 
 /// The length of the next vertex.
-pub(crate) fn next_length(sheaf: &Sheaf<PrimeField>) -> u32
+pub(crate) fn next_length<F: Field>(sheaf: &Sheaf<F>) -> u32
     requires { length sheaf.now.stalks < vertex_count sheaf.now.graph }
     ensures { result ≡ length_at sheaf.now.graph (next_vertex sheaf.now) }
 {
@@ -36,7 +37,7 @@ pub(crate) fn next_length(sheaf: &Sheaf<PrimeField>) -> u32
 }
 
 /// Whether there is a next vertex, and it has length `k`.
-fn is_next(sheaf: &Sheaf<PrimeField>, k: u32) -> bool
+fn is_next<F: Field>(sheaf: &Sheaf<F>, k: u32) -> bool
     ensures { IsTrue result ↔ ((length sheaf.now.stalks < vertex_count sheaf.now.graph)
         × (length_at sheaf.now.graph (next_vertex sheaf.now) ≡ k)) }
 {
@@ -45,13 +46,15 @@ fn is_next(sheaf: &Sheaf<PrimeField>, k: u32) -> bool
     pushed < graph.vertices() && graph.length(graph.vertices() - 1 - pushed) == k
 }
 
-/// Builds the parts of the vertices of length `k`, where those of all longer ones are there.
-pub(crate) fn build_level(
+/// Builds the parts of the vertices of length `k`, where those of all longer ones are there, in rows that are kept as
+/// `rows` are.
+pub(crate) fn build_level<F: Field, A: RowSpace<F>>(
     alloc: Global,
-    sheaf: &mut Sheaf<PrimeField>,
+    sheaf: &mut Sheaf<F>,
     k: u32,
     families: &[Family],
     counts: &[u32],
+    rows: &A,
     parts: &mut Parts,
 ) -> Result<(), AllocError>
     requires on { IsCheckableGraph sheaf.old.graph }
@@ -62,7 +65,7 @@ pub(crate) fn build_level(
     ensures level { OnOk result (IsLevelThere sheaf.old.graph k parts.new) }
 {
     'vertices: while is_next(sheaf, k) {
-        let part = build_stalk(alloc, sheaf, families, counts)?;
+        let part = build_stalk(alloc, sheaf, families, counts, rows)?;
         read_part(&part);
         parts.push(part)?;
     }
@@ -70,8 +73,8 @@ pub(crate) fn build_level(
 }
 
 /// Extends the families by the blocks of the vertices of length `k`, the shortest that are there.
-pub(crate) fn extend_families(
-    sheaf: &Sheaf<PrimeField>,
+pub(crate) fn extend_families<F: Field>(
+    sheaf: &Sheaf<F>,
     k: u32,
     parts: &Parts,
     families: &mut Vec<Family>,

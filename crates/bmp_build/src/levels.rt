@@ -1,35 +1,39 @@
-//! The parts of all vertices of a moment graph, with evidence by levels.
-ghost use Rattle.std.specs.Prelude.{◌≤◌, IfOk};
-ghost use Rattle.bmp_field.specs.declared.prime.PrimeField.{PrimeField};
+//! The levels of a moment graph, from the greatest vertex down, over any field and in any rows.
+ghost use Rattle.std.specs.Prelude.{◌≡◌, ◌≤◌, IfOk};
 ghost use Rattle.bmp_check.specs.Accepted.{IsCheckableGraph};
 ghost use Rattle.bmp_build.specs.BuiltGraphs.{AreBuilt};
 
 use crate::level::{build_level, counts_of, extend_families, next_length};
 use crate::start::{begun, top_families, top_part};
 use bmp_cert::Parts;
+use bmp_field::Field;
 use bmp_graph::MomentGraph;
+use bmp_linear::RowSpace;
 use std::alloc::{AllocError, Global};
 
-/// Builds the parts of all vertices of a moment graph, up to a degree, with evidence by levels: from the greatest
-/// vertex down, each stalk with its evidence for the families over the longer vertices.
-pub(crate) fn build_levels(
+/// Builds the parts of all vertices of a graph, up to a degree, over its field, in rows that are kept as `rows` are:
+/// level by level the stalks of its vertices, and then the families over it.
+pub(crate) fn build_levels<F: Field + Drop, A: RowSpace<F>>(
     alloc: Global,
     graph: &MomentGraph,
+    field: F,
+    rows: &A,
     degree: u32,
 ) -> Result<Parts, AllocError>
     requires on { IsCheckableGraph graph.now }
+    requires prime { F.size field ≡ graph.now.prime }
     requires degree { degree ≤ 6 }
-    ensures { IfOk result (λ parts. AreBuilt PrimeField graph.now (record { degree = degree; parts = parts })) }
+    ensures { IfOk result (λ parts. AreBuilt F graph.now (record { degree = degree; parts = parts })) }
 {
     let top = top_part(alloc)?;
-    let mut sheaf = begun(alloc, graph, degree, &top)?;
+    let mut sheaf = begun(alloc, graph, field, degree, &top)?;
     let mut families = top_families(alloc, &sheaf)?;
     let mut parts = Parts::new(alloc);
     parts.push(top)?;
     'levels: while sheaf.pushed() < graph.vertices() {
         let k = next_length(&sheaf);
         let counts = counts_of(alloc, &families)?;
-        build_level(alloc, &mut sheaf, k, &families, &counts, &mut parts)?;
+        build_level(alloc, &mut sheaf, k, &families, &counts, rows, &mut parts)?;
         extend_families(&sheaf, k, &parts, &mut families)?;
     }
     Ok(parts)

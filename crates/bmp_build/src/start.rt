@@ -1,5 +1,6 @@
 //! The greatest vertex: its part, its stalk, and the first families.
 ghost use Rattle.std.specs.Prelude.{◌≡◌, ◌+◌, ◌<◌, ◌≤◌, All, length, IfOk, OnOk};
+ghost use Rattle.bmp_field.specs.PrimeFields.{size_of};
 ghost use Rattle.bmp_linear.specs.SparseVectors.{ValuesBelow};
 ghost use Rattle.bmp_graph.specs.Graph.{vertex_count};
 ghost use Rattle.bmp_sheaf.specs.States.{next_vertex, with_stalk};
@@ -11,7 +12,7 @@ ghost use Rattle.bmp_build.specs.BuiltGraphs.{top_part};
 ghost use Rattle.bmp_build.specs.Building.{IsBegun, IsTopFamily, HasEach};
 
 use bmp_cert::{Degrees, VertexPart};
-use bmp_field::PrimeField;
+use bmp_field::{Field, PrimeField};
 use bmp_graph::MomentGraph;
 use bmp_levels::Family;
 use bmp_linear::{Blocks, Vectors};
@@ -34,7 +35,7 @@ pub(crate) fn top_part(alloc: Global) -> Result<VertexPart, AllocError>
 
 /// Adds the stalk that a part writes down, at the greatest vertex whose stalk isn't there. Since it is one, memory
 /// alone can be wanting.
-pub(crate) fn push_part(sheaf: &mut Sheaf<PrimeField>, part: &VertexPart) -> Result<(), AllocError>
+pub(crate) fn push_part<F: Field>(sheaf: &mut Sheaf<F>, part: &VertexPart) -> Result<(), AllocError>
     requires left { length sheaf.old.stalks < vertex_count sheaf.old.graph }
     requires values { All (λ v. ValuesBelow v sheaf.old.graph.prime) part.now.lifts }
     requires stalk { IsStalk sheaf.old (next_vertex sheaf.old) part.now.degrees part.now.lifts }
@@ -47,31 +48,40 @@ pub(crate) fn push_part(sheaf: &mut Sheaf<PrimeField>, part: &VertexPart) -> Res
     }
 }
 
-/// The sheaf on a graph, up to a degree, with the stalk of the greatest vertex alone.
-pub(crate) fn begun(
+/// The field of a graph's prime.
+pub(crate) fn field_of(graph: &MomentGraph) -> PrimeField
+    requires { IsCheckableGraph graph.now }
+    ensures { size_of result ≡ graph.now.prime }
+{
+    match PrimeField::new(graph.prime()) {
+        Ok(field) => field,
+        Err(_) => unreachable!(),
+    }
+}
+
+/// The sheaf on a graph, over its field, up to a degree, with the stalk of the greatest vertex alone.
+pub(crate) fn begun<F: Field + Drop>(
     alloc: Global,
     graph: &MomentGraph,
+    field: F,
     degree: u32,
     part: &VertexPart,
-) -> Result<Sheaf<PrimeField>, AllocError>
+) -> Result<Sheaf<F>, AllocError>
     requires on { IsCheckableGraph graph.now }
+    requires prime { F.size field ≡ graph.now.prime }
     requires degree { degree ≤ 6 }
     requires top { part.now ≡ top_part }
     ensures { IfOk result (IsBegun graph.now degree) }
 {
-    let field = match PrimeField::new(graph.prime()) {
-        Ok(field) => field,
-        Err(_) => unreachable!(),
-    };
     let mut sheaf = Sheaf::new(alloc, graph, field, degree)?;
     push_part(&mut sheaf, part)?;
     Ok(sheaf)
 }
 
 /// The families over the greatest vertex, one for each degree.
-pub(crate) fn top_families(
+pub(crate) fn top_families<F: Field>(
     alloc: Global,
-    sheaf: &Sheaf<PrimeField>,
+    sheaf: &Sheaf<F>,
 ) -> Result<Vec<Family>, AllocError>
     requires { HasTop sheaf.now }
     ensures { IfOk result

@@ -8,9 +8,12 @@ ghost use Rattle.bmp_check.specs.Accepted.{IsCheckableGraph};
 ghost use Rattle.bmp_check.specs.Verdicts.{Passes};
 
 use crate::levels::build_levels;
+use crate::start::field_of;
 use crate::whole_spaces::build_spaces;
 use bmp_cert::{Accepted, Cert, Parts};
 use bmp_graph::MomentGraph;
+use bmp_linear::DenseRows;
+use bmp_packed::{BitField, PackedRows};
 use std::alloc::{AllocError, Global};
 use std::thread::Threads;
 
@@ -19,8 +22,8 @@ use std::thread::Threads;
 /// the families over the longer vertices. Whatever the graph is, the parts have lines of the version, and no comparison
 /// of their verdict fails.
 ///
-/// The vertices are built in their order, whatever the number of workers is. Wants memory also where a number of
-/// members or of coordinates would be 2^32 or more.
+/// The vertices are built in their order, whatever the number of workers is, by levels modulo 2 in rows of bits. Wants
+/// memory also where a number of members or of coordinates would be 2^32 or more.
 pub fn build_graph(
     rt: &(impl Threads + Sync),
     alloc: Global,
@@ -38,10 +41,16 @@ pub fn build_graph(
 {
     let _workers = workers;
     if version == 1 {
-        let parts = build_spaces(alloc, graph, degree)?;
-        return Ok(parts);
+        let spaces = build_spaces(alloc, graph, degree)?;
+        return Ok(spaces);
     }
-    let parts = build_levels(alloc, graph, degree)?;
+    if graph.prime() == 2 {
+        let rows = PackedRows::new(alloc, 0);
+        let parts_of_bits = build_levels(alloc, graph, BitField::new(), &rows, degree)?;
+        return Ok(parts_of_bits);
+    }
+    let rows = DenseRows::new(alloc, 0);
+    let parts = build_levels(alloc, graph, field_of(graph), &rows, degree)?;
     Ok(parts)
 }
 

@@ -5,7 +5,7 @@ ghost use Rattle.bmp_check.specs.Accepted.{IsCheckableGraph};
 ghost use Rattle.bmp_build.specs.WholeSpaces.{AreWhole};
 
 use crate::held::read_part;
-use crate::start::{begun, push_part, top_part};
+use crate::start::{begun, field_of, push_part, top_part};
 use crate::whole_stalk::build_whole_stalk;
 use bmp_cert::Parts;
 use bmp_graph::MomentGraph;
@@ -25,8 +25,8 @@ pub(crate) fn build_spaces(
     ensures { IfOk result (λ parts. AreWhole PrimeField graph.now (record { degree = degree; parts = parts })) }
 {
     let top = top_part(alloc)?;
-    let mut above = begun(alloc, graph, degree, &top)?;
-    let mut sheaf = begun(alloc, graph, degree, &top)?;
+    let mut above = begun(alloc, graph, field_of(graph), degree, &top)?;
+    let mut sheaf = begun(alloc, graph, field_of(graph), degree, &top)?;
     let mut parts = Parts::new(alloc);
     parts.push(top)?;
     'stalks: while sheaf.pushed() < graph.vertices() {

@@ -7,7 +7,7 @@ ghost use Rattle.bmp_build.specs.WholeSpaces.{IsWholePart, IsSameSheaf, IsBuiltS
 use crate::whole_space::whole_space;
 use bmp_cert::VertexPart;
 use bmp_field::Field;
-use bmp_linear::{Blocks, DegreeBlock};
+use bmp_linear::{Blocks, DegreeBlock, DenseRows};
 use bmp_sections::Tuples;
 use bmp_sheaf::Sheaf;
 use bmp_stalk::{BuiltDegree, Draft, begin_stalk, build_degree};
@@ -21,6 +21,7 @@ fn build_space<F: Field>(
     sheaf: &mut Sheaf<F>,
     x: u32,
     d: u32,
+    rows: &DenseRows<F>,
     draft: Draft,
 ) -> Result<BuiltDegree, AllocError>
     requires degree { d ≤ sheaf.old.degree }
@@ -34,7 +35,7 @@ fn build_space<F: Field>(
 {
     let space = whole_space(alloc, above, x, d)?;
     let sections = Tuples::over(above, x, d, &space.index, &space.kernel.basis);
-    let built = build_degree(alloc, sheaf, x, d, &sections, draft)?;
+    let built = build_degree(alloc, sheaf, x, d, &sections, rows, draft)?;
     Ok(BuiltDegree {
         draft: built.draft,
         block: DegreeBlock {
@@ -61,8 +62,9 @@ pub(crate) fn build_whole_stalk<F: Field>(
     let (first, past) = sheaf.graph().up(x);
     let mut draft = begin_stalk(alloc, sheaf)?;
     let mut blocks = Blocks::new(alloc);
+    let rows = DenseRows::new(alloc, 0);
     'degrees: for d in 0..sheaf.degree() + 1 {
-        let built = build_space(alloc, above, sheaf, x, d, draft)?;
+        let built = build_space(alloc, above, sheaf, x, d, &rows, draft)?;
         draft = built.draft;
         blocks.push(built.block)?;
     }

@@ -8,7 +8,7 @@ ghost use Rattle.bmp_stalk.specs.Drafts.{AreFew};
 use crate::joined::joined_boundary;
 use bmp_elim::extend_columns;
 use bmp_field::Field;
-use bmp_linear::{CoverEvidence, DegreeBlock, Places, Vector, Vectors};
+use bmp_linear::{CoverEvidence, DegreeBlock, Places, RowSpace, Vector, Vectors};
 use bmp_sections::Sections;
 use bmp_sheaf::Sheaf;
 use std::alloc::{AllocError, Global};
@@ -34,13 +34,14 @@ fn sources_of(alloc: Global, chosen: &Places) -> Result<Vectors, AllocError>
 
 /// Chooses the tuples at `x` in degree `d` that become generators of this degree, by the boundaries of the generators
 /// that are there, all of lower degree. The evidence is for the sheaf in which the chosen ones are generators too. One
-/// elimination of a matrix with a row for each boundary coordinate.
-pub fn choose_generators<F: Field, T: Sections>(
+/// elimination of a matrix with a row for each boundary coordinate, in rows that are kept as `rows` are.
+pub fn choose_generators<F: Field, T: Sections, A: RowSpace<F>>(
     alloc: Global,
     sheaf: &Sheaf<F>,
     x: u32,
     d: u32,
     tuples: &T,
+    rows: &A,
 ) -> Result<Choice, AllocError>
     requires stalks { HasStalks sheaf.now x d }
     requires tuples { HasTuples sheaf.now x d (T.list tuples.now) }
@@ -49,7 +50,7 @@ pub fn choose_generators<F: Field, T: Sections>(
         (λ c. IsChosenAt sheaf.now.graph (sheaf_of sheaf.now) x d (T.list tuples.now) c.chosen c.block) }
 {
     let f = sheaf.field();
-    let o = joined_boundary(alloc, sheaf, x, d, tuples)?;
+    let o = joined_boundary(alloc, sheaf, x, d, tuples, rows)?;
     let split = sheaf.stalk_len(x, d) as u32;
     let e = extend_columns(alloc, f, o, split)?;
     let sources = sources_of(alloc, &e.chosen)?;

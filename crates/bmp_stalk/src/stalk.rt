@@ -11,7 +11,7 @@ use crate::draft::{Draft, begin_stalk, next_draft};
 use bmp_cert::VertexPart;
 use bmp_field::Field;
 use bmp_levels::Family;
-use bmp_linear::{Blocks, DegreeBlock};
+use bmp_linear::{Blocks, DegreeBlock, RowSpace};
 use bmp_sections::Sections;
 use bmp_sheaf::Sheaf;
 use std::alloc::{AllocError, Global};
@@ -46,12 +46,14 @@ fn check_few<F: Field, T: Sections>(
 
 /// One degree at the vertex `x`, whose stalk so far stands on top of the sheaf as the draft: chooses which tuples
 /// become generators, adds them to the stalk, and gives the evidence. The tuples have values at the vertices above `x`.
-pub fn build_degree<F: Field, T: Sections>(
+/// It works in rows that are kept as `rows` are, which are not read.
+pub fn build_degree<F: Field, T: Sections, A: RowSpace<F>>(
     alloc: Global,
     sheaf: &mut Sheaf<F>,
     x: u32,
     d: u32,
     tuples: &T,
+    rows: &A,
     draft: Draft,
 ) -> Result<BuiltDegree, AllocError>
     requires degree { d ≤ sheaf.old.degree }
@@ -65,7 +67,7 @@ pub fn build_degree<F: Field, T: Sections>(
         (λ b. IsBuiltDegree (under sheaf.old) x d (T.list tuples.now) b.block b.draft) }
 {
     check_few(sheaf, x, d, tuples)?;
-    let choice = choose_generators(alloc, sheaf, x, d, tuples)?;
+    let choice = choose_generators(alloc, sheaf, x, d, tuples, rows)?;
     let longer = next_draft(alloc, sheaf, x, d, tuples, &choice.chosen, draft)?;
     Ok(BuiltDegree {
         draft: longer,
@@ -75,12 +77,14 @@ pub fn build_degree<F: Field, T: Sections>(
 
 /// Builds the stalk at the next vertex of the sheaf, the greatest whose stalk isn't there, degree by degree: for each
 /// degree with the first `counts[d]` members of `families[d]`. Gives the stalk as the part of a certificate, with the
-/// evidence of each degree. Where it wants memory the sheaf may have an unfinished stalk.
-pub fn build_stalk<F: Field>(
+/// evidence of each degree. Works in rows that are kept as `rows` are. Where it wants memory the sheaf may have an
+/// unfinished stalk.
+pub fn build_stalk<F: Field, A: RowSpace<F>>(
     alloc: Global,
     sheaf: &mut Sheaf<F>,
     families: &[Family],
     counts: &[u32],
+    rows: &A,
 ) -> Result<VertexPart, AllocError>
     requires left { length sheaf.old.stalks < vertex_count sheaf.old.graph }
     requires families { length families.now ≡ sheaf.old.degree + 1 }
@@ -94,7 +98,7 @@ pub fn build_stalk<F: Field>(
     let mut blocks = Blocks::new(alloc);
     for d in 0..sheaf.degree() + 1 {
         let members = families[d as usize].members(counts[d as usize]);
-        let built = build_degree(alloc, sheaf, x, d, &members, draft)?;
+        let built = build_degree(alloc, sheaf, x, d, &members, rows, draft)?;
         draft = built.draft;
         blocks.push(built.block)?;
     }

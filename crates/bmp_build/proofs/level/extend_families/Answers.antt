@@ -7,13 +7,13 @@ use Rattle.bmp_build.proofs.Extending.{IsOfParts, level_fits, next_family, IsTur
 use Rattle.bmp_build.proofs.level.extend_families.Goals as goal
 
 pub extend_level-requires-clause-longer : goal.extend_level-requires-clause-longer
-extend_level-requires-clause-longer c =
+extend_level-requires-clause-longer g c =
     let more : c.degrees.degree < c.args.sheaf.now.degree + 1 =
     omega (arith, c.degrees-test.true, c.degree-degree-end.ensures.degree) in
     (turned_out c.degrees.invariant more c.remove-family.result c.remove-family.ensures.value).holds
 
 pub extend_level-requires-clause-blocks : goal.extend_level-requires-clause-blocks
-extend_level-requires-clause-blocks c =
+extend_level-requires-clause-blocks g c =
     let more : c.degrees.degree < c.args.sheaf.now.degree + 1 =
     omega (arith, c.degrees-test.true, c.degree-degree-end.ensures.degree) in
     let blocks : LevelParts = record {
@@ -30,7 +30,7 @@ extend_level-requires-clause-blocks c =
     (turned_out c.degrees.invariant more c.remove-family.result c.remove-family.ensures.value) of
 
 pub degrees-preserved : goal.degrees-preserved
-degrees-preserved c =
+degrees-preserved g c =
     let more : c.degrees.degree < c.args.sheaf.now.degree + 1 =
     omega (arith, c.degrees-test.true, c.degree-degree-end.ensures.degree) in
     let blocks : LevelParts = record {
@@ -51,7 +51,7 @@ degrees-preserved c =
     c.in_ok-longer.ensures.holds c.in_ok-longer.ensures.extended)
 
 pub returns : goal.returns
-returns c =
+returns g c =
     let all : c.degrees.degree ≡ c.args.sheaf.now.degree + 1 =
     omega (arith, c.degrees-test.false, c.degrees.auto.degree-end, c.degree-degree-end.ensures.degree) in
     level_down c.requires.down c.requires.level

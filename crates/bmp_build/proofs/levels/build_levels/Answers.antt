@@ -9,7 +9,7 @@ use Rattle.bmp_build.proofs.Downward.{pushed, next_in, level_begun, next_shorter
 use Rattle.bmp_build.proofs.levels.build_levels.Goals as goal
 
 pub levels-init : goal.levels-init
-levels-init c =
+levels-init g c =
     let G = c.args.graph.now in
     let s = c.in_ok-sheaf.sheaf in
     let items = c.in_ok-families.families.items in
@@ -22,7 +22,7 @@ levels-init c =
     (subst (λ n. HasEach (IsTopFamily s) (n + 1) items) c.in_ok-sheaf.ensures.degree c.in_ok-families.ensures))
 
 pub build_level-requires-clause-down : goal.build_level-requires-clause-down
-build_level-requires-clause-down c =
+build_level-requires-clause-down g c =
     let k = c.next_length-k.result in
     let left : length c.levels.parts < vertex_count c.args.graph.now =
     omega (
@@ -37,7 +37,7 @@ build_level-requires-clause-down c =
     (level_begun c.requires.on.graph c.levels.invariant left (next_in c.levels.invariant c.next_length-k.ensures))
 
 pub extend_families-requires-clause-shorter : goal.extend_families-requires-clause-shorter
-extend_families-requires-clause-shorter c =
+extend_families-requires-clause-shorter g c =
     let left : length c.levels.parts < vertex_count c.args.graph.now =
     omega (
       arith,
@@ -51,7 +51,7 @@ extend_families-requires-clause-shorter c =
     (next_shorter c.requires.on.graph c.levels.invariant left (next_in c.levels.invariant c.next_length-k.ensures))
 
 pub levels-smaller : goal.levels-smaller
-levels-smaller c =
+levels-smaller g c =
     let left : length c.levels.parts < vertex_count c.args.graph.now =
     omega (
       arith,
@@ -71,7 +71,7 @@ levels-smaller c =
     less
 
 pub levels-preserved : goal.levels-preserved
-levels-preserved c =
+levels-preserved g c =
     let G = c.args.graph.now in
     let k = c.next_length-k.result in
     let s = c.build_level.new.sheaf in
@@ -100,7 +100,7 @@ levels-preserved c =
     subst (λ n. IsBuiltDown G c.args.degree n n s parts items) (sym last) down
 
 pub returns : goal.returns
-returns c =
+returns g c =
     let all : vertex_count c.args.graph.now ≤ length c.levels.parts =
     omega (
       arith,

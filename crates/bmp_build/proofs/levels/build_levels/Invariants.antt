@@ -5,10 +5,10 @@ use Rattle.bmp_build.proofs.levels.build_levels.Given as goal
 
 -- the levels so far
 abbrev pub invariant-levels : goal.invariant-levels
-invariant-levels l =
+invariant-levels g l =
     IsBuiltDown l.graph l.degree (last_length l.graph l.parts) (last_length l.graph l.parts) l.sheaf l.parts
     l.families.items
 
 -- the vertices that are left
 abbrev pub decreases-levels : goal.decreases-levels
-decreases-levels l = vertex_count l.graph - length l.parts
+decreases-levels g l = vertex_count l.graph - length l.parts

@@ -1,6 +1,5 @@
 use Rattle.std.proofs.Common.{◌≡◌, ℕ, ap, subst, ◌∙◌}
 use Rattle.bmp_math.specs.Matrices.{Matrix}
-use Rattle.bmp_linear.specs.RowTables.{matrix_of_numbers}
 use Rattle.bmp_elim.specs.Eliminations.{IsEvidenceOf}
 use Rattle.bmp_elim.specs.KeptColumns.{HasColumnDuals, HasColumnSums, AreColumns, kept_columns}
 use Rattle.bmp_sheaf.specs.Coordinates.{stalk_count}
@@ -10,7 +9,7 @@ use Rattle.bmp_stalk.proofs.choice.choose_generators.Goals as goal
 pub returns : goal.returns
 returns g c =
     let G = c.args.sheaf.now.graph in
-    let o : Matrix = matrix_of_numbers c.in_ok-o.o in
+    let o : Matrix = g.A.Rows.matrix c.in_ok-o.o in
     let e = c.in_ok-e.e in
     let split : ℕ = c.stalk_len-split.result in
     let prime : g.F.Field.size c.field-f.result.now ≡ G.prime =

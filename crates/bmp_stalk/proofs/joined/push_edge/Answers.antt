@@ -47,10 +47,9 @@ loop-i-preserved g c =
     c.write_joined_row.ensures.row in
     let next : (boundary_start G F x d e + i) + 1 ≡ boundary_start G F x d e + (i + 1) = omega arith in
     record {
-      rows = subst (λ n. HasRowsOf n (joined_matrix G F x d list) (matrix_of_numbers c.push_numbers.new.self)) next
+      rows = subst (λ n. HasRowsOf n (joined_matrix G F x d list) (g.A.Rows.matrix c.push_numbers.new.self)) next
           (rows_more {n = boundary_start G F x d e + i} {a = joined_matrix G F x d list} c.loop-i.invariant.rows
           (joined_row_is h row i inside is_row c.write_joined_row.new.numbers joined)
           c.in_ok-push_numbers.ensures.ok);
-      room = c.write_joined_row.ensures.room ∙ c.loop-i.invariant.room;
       sized = c.write_joined_row.auto.numbers ∙ c.loop-i.invariant.sized;
     }

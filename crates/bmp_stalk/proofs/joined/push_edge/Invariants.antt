@@ -1,5 +1,4 @@
 use Rattle.std.proofs.Common.{◌≡◌, ◌+◌, length}
-use Rattle.bmp_linear.specs.RowTables.{matrix_of_numbers}
 use Rattle.bmp_graph.specs.Graph.{lower}
 use Rattle.bmp_sheaf.specs.Coordinates.{boundary_start}
 use Rattle.bmp_sheaf.specs.States.{sheaf_of}
@@ -10,7 +9,6 @@ use Rattle.bmp_stalk.proofs.joined.push_edge.Given as goal
 abbrev pub invariant-loop-i : goal.invariant-loop-i
 invariant-loop-i g l = let G = l.sheaf.graph in let F = sheaf_of l.sheaf in let x = lower G l.e in record {
   rows : HasRowsOf (boundary_start G F x l.d l.e + l.i) (joined_matrix G F x l.d (g.T.Sections.list l.tuples))
-      (matrix_of_numbers l.o);
-  room : length l.s.first ≡ length l.fn.s.first;
+      (g.A.Rows.matrix l.o);
   sized : length l.joined ≡ length l.fn.joined;
 }

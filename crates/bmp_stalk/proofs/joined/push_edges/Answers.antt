@@ -1,5 +1,4 @@
 use Rattle.std.proofs.Common.{◌≡◌, ℕ, ◌+◌, refl, sym, subst, ◌∙◌, arith}
-use Rattle.bmp_linear.specs.RowTables.{matrix_of_numbers}
 use Rattle.bmp_graph.specs.Graph.{IsUpRange, lower}
 use Rattle.bmp_sheaf.specs.Coordinates.{boundary_start, edge_module_count}
 use Rattle.bmp_sheaf.specs.States.{sheaf_of}
@@ -16,9 +15,8 @@ loop-e-init g c =
     let range = subst (λ h. IsUpRange h c.args.x first past) c.graph.ensures.graph c.up-from.ensures.range in
     let J = joined_matrix s.graph (sheaf_of s) c.args.x c.args.d (g.T.Sections.list c.args.tuples.now) in
     record {
-      rows = subst (λ n. HasRowsOf n J (matrix_of_numbers c.args.o.now))
+      rows = subst (λ n. HasRowsOf n J (g.A.Rows.matrix c.args.o.now))
           (starts_at s c.args.x c.args.d c.graph.ensures.state c.requires.stalks first past range) c.requires.before;
-      room = refl;
       joined = refl;
       values = refl;
     }
@@ -41,7 +39,7 @@ loop-e-preserved g c =
     let first : ℕ = c.up-from.result.0 in
     let past : ℕ = c.up-from.result.1 in
     let list = g.T.Sections.list c.args.tuples.now in
-    let o = matrix_of_numbers c.push_edge.new.o in
+    let o = g.A.Rows.matrix c.push_edge.new.o in
     let range = subst (λ h. IsUpRange h x first past) c.graph.ensures.graph c.up-from.ensures.range in
     let at : lower s.graph e ≡ x =
     starts s x d c.graph.ensures.state c.requires.stalks first past range e c.loop-e.auto.e c.loop-e-test.true in
@@ -53,20 +51,21 @@ loop-e-preserved g c =
       rows = subst (λ n. HasRowsOf n (joined_matrix s.graph (sheaf_of s) x d list) o)
           (sym (goes_on s x d c.graph.ensures.state c.requires.stalks first past range e c.loop-e.auto.e
           c.loop-e-test.true)) more;
-      room = c.push_edge.ensures.room ∙ c.loop-e.invariant.room;
       joined = c.push_edge.auto.joined ∙ c.loop-e.invariant.joined;
       values = c.push_edge.auto.values ∙ c.loop-e.invariant.values;
     }
 
-pub returns-clause-same : goal.returns-clause-same
-returns-clause-same g c =
+pub returns : goal.returns
+returns g c =
     let s = c.args.sheaf.now in
     let e : ℕ = c.loop-e.e in
     let first : ℕ = c.up-from.result.0 in
     let past : ℕ = c.up-from.result.1 in
     let range = subst (λ h. IsUpRange h c.args.x first past) c.graph.ensures.graph c.up-from.ensures.range in
     let ends : e ≡ past = omega (arith, c.loop-e-test.false, c.loop-e.auto.e-end, range.ordered) in
-    same_from_rows {n = boundary_start s.graph (sheaf_of s) c.args.x c.args.d e}
-    {a = joined_matrix s.graph (sheaf_of s) c.args.x c.args.d (g.T.Sections.list c.args.tuples.now)}
-    (ends_at s c.args.x c.args.d c.graph.ensures.state c.requires.stalks first past range e ends)
-    c.loop-e.invariant.rows
+    record {
+      same = same_from_rows {n = boundary_start s.graph (sheaf_of s) c.args.x c.args.d e}
+          {a = joined_matrix s.graph (sheaf_of s) c.args.x c.args.d (g.T.Sections.list c.args.tuples.now)}
+          (ends_at s c.args.x c.args.d c.graph.ensures.state c.requires.stalks first past range e ends)
+          c.loop-e.invariant.rows;
+    }
