@@ -1,6 +1,7 @@
-//! Certificates that are built, against the numbers of generators of files that other builders made.
+//! Certificates that are built, against the numbers of generators of files that other builders made, and those by whole
+//! spaces against those by levels.
 use bmp_build::{build, level_version};
-use bmp_cert::{Accepted, Cert, Ranks, accept_job, read_job};
+use bmp_cert::{Accepted, Cert, Lattice, Ranks, accept_job, read_job};
 use bmp_check::check;
 use std::alloc::Global;
 use std::test::Fail;
@@ -65,6 +66,35 @@ fn built_certificates(rt: HostRuntime) -> Result<(), Fail> {
                     expected(is_special, counts, d),
                     "vertex {x} degree {d}"
                 );
+            }
+        }
+    }
+    Ok(())
+}
+
+/// What the check answers of the certificate of version 1 that is built for a job with a plain lattice.
+fn whole_ranks(rt: &(impl Threads + Sync), alloc: Global, text: &str) -> Result<Ranks, Fail> {
+    let job = read_job(alloc, text.as_bytes())?;
+    let a = accept_job(alloc, &job)?;
+    match job.lattice {
+        Lattice::Plain => {
+            let cert = build(rt, alloc, &a, 1, 1)?;
+            Ok(check(rt, alloc, &a, &cert, 1)?)
+        }
+        _ => Err(Fail::new("the lattice isn't plain")),
+    }
+}
+
+#[test]
+fn versions_agree(rt: HostRuntime) -> Result<(), Fail> {
+    for text in [A3, B3] {
+        let whole = whole_ranks(&rt, rt.alloc(), text)?;
+        let levels = built_ranks(&rt, rt.alloc(), text)?;
+        assert_eq!(rt; whole.vertices(), levels.vertices());
+        assert_eq!(rt; whole.degree(), levels.degree());
+        for x in 0..whole.vertices() {
+            for d in 0..whole.degree() + 1 {
+                assert_eq!(rt; whole.count(x, d), levels.count(x, d), "vertex {x} degree {d}");
             }
         }
     }
