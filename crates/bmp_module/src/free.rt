@@ -71,6 +71,13 @@ impl Free {
         self.degrees.len() as u32
     }
 
+    /// The degrees of the generators, in their order.
+    pub fn degrees(&self) -> &[u32]
+        ensures { result.now ≡ degrees_of self.now }
+    {
+        &self.degrees
+    }
+
     /// The degree of the generator `g`, counted from 0.
     pub fn degree_of(&self, g: u32) -> u32
         requires { g < length (degrees_of self.now) }

@@ -8,7 +8,7 @@ use Rattle.bmp_graph.specs.Graph.{Graph, lower, upper, label}
 use Rattle.bmp_sheaf.specs.Elements.{Element, extension}
 use Rattle.bmp_sheaf.specs.Sheaves.{SheafData}
 use Rattle.bmp_sheaf.specs.Coordinates.{leading, stalk_count, element_of}
-use Rattle.bmp_sheaf.specs.Numbers.{edge_number, unit_at, lower_matrix, upper_matrix}
+use Rattle.bmp_sheaf.specs.Numbers.{edge_number, unit_at, lower_matrix}
 use Rattle.bmp_sheaf.specs.Written.{first_edge, written_sheaf}
 
 pub record AgreeOnEdge (G : Graph) (F F' : SheafData) (e : ℕ) : Type 0 where
@@ -42,15 +42,5 @@ module _ (G : Graph) (F F' : SheafData) (d e : ℕ) (agree : AgreeOnEdge G F F' 
         rows = stalk_count (G.rank - 1) a d;
         cols = stalk_count G.rank b d;
         entry = λ i j. edge_number G.prime G.rank (label G e) (leading G e) a d (extension G.rank b images d (unit_at G.rank b d j)) i;
-      } in
-      made matrix
-
-  pub upper_matrix_agrees : upper_matrix G F d e ≡ upper_matrix G F' d e
-  upper_matrix_agrees =
-      let matrix : List ℕ → List ℕ → (ℕ → Element) → Matrix =
-      λ b a images. record {
-        rows = stalk_count (G.rank - 1) a d;
-        cols = stalk_count G.rank a d;
-        entry = λ i j. edge_number G.prime G.rank (label G e) (leading G e) a d (unit_at G.rank a d j) i;
       } in
       made matrix

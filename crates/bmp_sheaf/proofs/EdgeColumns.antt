@@ -22,7 +22,8 @@ use Rattle.bmp_sheaf.specs.Units.{unit_element}
 use Rattle.bmp_sheaf.specs.Coordinates.{stalk_count, element_of}
 use Rattle.bmp_sheaf.specs.Numbers.{edge_number, unit_at}
 use Rattle.bmp_sheaf.specs.EdgeMaps.{lift_by, lower_map, upper_map}
-use Rattle.bmp_sheaf.specs.EdgeModules.{lower_map_on, upper_map_on}
+use Rattle.bmp_sheaf.specs.EdgeModules.{lower_map_on}
+use Rattle.bmp_sheaf.specs.UpperTables.{upper_map_of}
 use Rattle.bmp_sheaf.proofs.ExtensionLaws.{extension_same, extension-unit}
 use Rattle.bmp_sheaf.proofs.EdgeNumbers.{edge_number_below, edge_number_respects}
 use Rattle.bmp_sheaf.proofs.ModuleLemmas.{free_count, quotient_count, generator_same, lower_is_map}
@@ -113,8 +114,7 @@ module _ (size : ℕ) (q : Quotient) (t : NormalTable) (two : 2 ≤ size) (inver
 
   pub upper_made : (ws : ℕ → ℕ → ℕ) → rank ≡ q.label.rank →
       HasNumbers q.label.prime q.label.rank q.label.leading q.label.coords two_here inverses_here q.label.leads q.free.degrees.items d q.free.degrees.items unit_element ws →
-      (m : Quotient) → m ≡ q → SameMatrix b (matrix_of_map size (free rank q.free.degrees.items) (module_in m) (graded_extension rank (module_in m) q.free.degrees.items ws) d) → SameMatrix b (upper_map_on t q.free d)
+      (m : Quotient) → m ≡ q → SameMatrix b (matrix_of_map size (free rank q.free.degrees.items) (module_in m) (graded_extension rank (module_in m) q.free.degrees.items ws) d) → SameMatrix b (upper_map_of q d)
   upper_made ws own has m m_is by =
-      subst (λ (z : Label). SameMatrix b (upper_map z.prime q.free.rank (slice_index z.coords) z.leading q.free.degrees.items d)) label_is
-      (subst (λ z. SameMatrix b (upper_map q.label.prime z (slice_index q.label.coords) q.label.leading q.free.degrees.items d)) (sym q.agree)
-      (upper_matrix_is q.label.prime q.label.rank q.label.leading q.label.coords two_here inverses_here q.label.leads q.free.degrees.items d ws b has (there q.free.degrees.items ws m own m_is by)))
+      subst (λ z. SameMatrix b (upper_map q.label.prime z (slice_index q.label.coords) q.label.leading q.free.degrees.items d)) (sym q.agree)
+      (upper_matrix_is q.label.prime q.label.rank q.label.leading q.label.coords two_here inverses_here q.label.leads q.free.degrees.items d ws b has (there q.free.degrees.items ws m own m_is by))

@@ -15,7 +15,7 @@ use Rattle.bmp_sheaf.specs.Coordinates.{leading, edge_module_count}
 use Rattle.bmp_sheaf.specs.Numbers.{unit_at, lower_matrix, upper_matrix}
 use Rattle.bmp_sheaf.specs.ModuleMaps.{stalk_module, edge_module, from_lower, from_upper}
 use Rattle.bmp_sheaf.specs.States.{SheafState, sheaf_of}
-use Rattle.bmp_sheaf.specs.StalkTables.{IsEdgeModule}
+use Rattle.bmp_sheaf.specs.UpperTables.{IsEdgeModule}
 use Rattle.bmp_sheaf.proofs.ModuleLemmas.{free_count, quotient_count}
 use Rattle.bmp_sheaf.proofs.OnEdge.{on_edge_below}
 

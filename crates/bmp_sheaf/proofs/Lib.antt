@@ -21,11 +21,12 @@ pub mod BoundaryNumbers
 pub mod EdgeMaps
 pub mod BoundaryMaps
 pub mod SameMatrices
+pub mod UpperTableLemmas
 pub mod StalkTableLemmas
 pub mod RuleLemmas
+pub mod SameAbove
 pub mod NewStalks
 pub mod PoppedStalks
-pub mod NewModules
 pub mod NewMaps
 pub mod BoundaryWrites
 pub mod BoundaryRowLemmas

@@ -20,18 +20,18 @@ use Rattle.bmp_graded.proofs.CoordinateLemmas.{length_more}
 use Rattle.bmp_sheaf.specs.Elements.{Element, extension}
 use Rattle.bmp_sheaf.specs.Sheaves.{SheafData}
 use Rattle.bmp_sheaf.specs.Coordinates.{stalk_count, element_of, leading}
-use Rattle.bmp_sheaf.specs.Numbers.{edge_number, unit_at, lower_matrix, upper_matrix}
+use Rattle.bmp_sheaf.specs.Numbers.{edge_number, unit_at, lower_matrix}
 use Rattle.bmp_sheaf.specs.Written.{first_edge, up_count, IsUpPlace, lift_place}
 use Rattle.bmp_module.specs.NormalTables.{label_of}
 use Rattle.bmp_module.specs.declared.normal_table.NormalTable.{NormalTable}
 use Rattle.bmp_sheaf.specs.LabelTables.{IsTableOf}
-use Rattle.bmp_sheaf.specs.EdgeMaps.{LiftsFit, lift_by, lower_map, upper_map}
+use Rattle.bmp_sheaf.specs.EdgeMaps.{LiftsFit, lift_by, lower_map}
 use Rattle.bmp_sheaf.specs.States.{Stalk, SheafState, stalk_of, next_vertex, with_stalk, sheaf_of}
 use Rattle.bmp_sheaf.specs.StalkFaults.{IsStalk}
-use Rattle.bmp_sheaf.specs.StalkTables.{StalkTable, AreModulesUp, AreMapsUp, IsStalkTable, stalk_in, map_place}
+use Rattle.bmp_sheaf.specs.StalkTables.{StalkTable, AreMapsUp, IsStalkTable, stalk_in, map_place}
 use Rattle.bmp_sheaf.proofs.UpEdges.{first_edge_is, up_count_is}
 use Rattle.bmp_sheaf.proofs.StalkTableLemmas.{lift_fits}
-use Rattle.bmp_sheaf.proofs.NewStalks.{stalk_new, degrees_kept, stalk_still, modules_still}
+use Rattle.bmp_sheaf.proofs.NewStalks.{stalk_new, degrees_kept, stalk_still}
 
 -- a map from a free module is known by the images of its generators
 extension_images : (r : ℕ) (degrees : List ℕ) (images others : ℕ → Element) (d : ℕ) → ((g : ℕ) → g < length degrees → images g ≡ others g) → extension r degrees images d ≡ extension r degrees others d
@@ -43,16 +43,6 @@ extension_images r degrees images others d same =
 
 -- the maps by a table, by lists of degrees and by lifts, where these are the edge's own
 module _ (G : Graph) (F : SheafData) (D e d n : ℕ) (t : NormalTable) (table : IsTableOf G D e t) (rank : n ≡ G.rank) where
-  pub upper_map_is : (into : List ℕ) → into ≡ F.degrees (upper G e) → upper_map (prime_of (label_of t)) n (coordinate_of (label_of t)) (leading_of (label_of t)) into d ≡ upper_matrix G F d e
-  upper_map_is into above =
-      let x = label_of t in
-      let M : ℕ → ℕ → (ℕ → ℕ) → ℕ → List ℕ → Matrix = λ p r c l b. upper_map p r c l b d in
-      ap (λ p. M p n (coordinate_of x) (leading_of x) into) table.prime
-      ∙ ap (λ r. M G.prime r (coordinate_of x) (leading_of x) into) rank
-      ∙ ap (λ c. M G.prime G.rank c (leading_of x) into) table.coordinates
-      ∙ ap (λ l. M G.prime G.rank (label G e) l into) table.leading
-      ∙ ap (M G.prime G.rank (label G e) (leading G e)) above
-
   pub lower_map_is : (from into : List ℕ) (lifts : List (List Entry)) → from ≡ F.degrees (lower G e) → into ≡ F.degrees (upper G e) → ((g : ℕ) → g < length from → lift_by G.rank from into lifts g ≡ F.lift e g)
       → lower_map (prime_of (label_of t)) n (coordinate_of (label_of t)) (leading_of (label_of t)) from into lifts d ≡ lower_matrix G F d e
   lower_map_is from into lifts below above same =
@@ -131,45 +121,37 @@ module _ (from D : ℕ) (N : ℕ → ℕ → Matrix) where
             (subst (SameMatrix (matrix_of_entries (get_or ts ((e - from) * (D + 1) + d) t))) (by_edge_at e d has.0 (omega (arith, small, bound))) (h.each ((e - from) * (D + 1) + d) t within));
       }
 
--- both maps of each edge and degree, in this order
+-- the lower maps of each edge and degree, in this order
 module _ {F : Type 0} (s : SheafState F) (from : ℕ) where
-  pub record MapsUpBefore (n : ℕ) (lower upper : List EntryTable) : Type 0 where
-    pub lower_before : MapsBefore (by_edge from s.degree (lower_matrix s.graph (sheaf_of s))) n lower
-    pub upper_before : MapsBefore (by_edge from s.degree (upper_matrix s.graph (sheaf_of s))) n upper
+  abbrev lower_by_edge : ℕ → Matrix
+  lower_by_edge = by_edge from s.degree (lower_matrix s.graph (sheaf_of s))
+
+  abbrev pub LowerBefore : ℕ → List EntryTable → Type 0
+  LowerBefore n ls = MapsBefore lower_by_edge n ls
 
   -- how many maps come before those of the edge e
   abbrev pub before_edge : ℕ → ℕ
   before_edge e = (e - from) * (s.degree + 1)
 
-  pub up_none : MapsUpBefore (before_edge from) [] []
+  pub up_none : LowerBefore (before_edge from) []
   up_none =
       let none : 0 ≡ before_edge from = let zero_of : from - from ≡ 0 = omega arith in rw zero_of (omega arith) in
-      subst (λ n. MapsUpBefore n [] []) none (record { lower_before = maps_none (by_edge from s.degree (lower_matrix s.graph (sheaf_of s))); upper_before = maps_none (by_edge from s.degree (upper_matrix s.graph (sheaf_of s))) })
+      subst (λ n. LowerBefore n []) none (maps_none lower_by_edge)
 
-  pub up_starts : (e : ℕ) (ls us : List EntryTable) → MapsUpBefore (before_edge e) ls us → MapsUpBefore (before_edge e + 0) ls us
-  up_starts e ls us h = let same : before_edge e ≡ before_edge e + 0 = omega arith in subst (λ n. MapsUpBefore n ls us) same h
+  pub up_starts : (e : ℕ) (ls : List EntryTable) → LowerBefore (before_edge e) ls → LowerBefore (before_edge e + 0) ls
+  up_starts e ls h = let same : before_edge e ≡ before_edge e + 0 = omega arith in subst (λ n. LowerBefore n ls) same h
 
-  pub up_more : (e d : ℕ) (ls us : List EntryTable) (l u : EntryTable) → from ≤ e → d ≤ s.degree → SameMatrix (matrix_of_entries l) (lower_matrix s.graph (sheaf_of s) d e) → SameMatrix (matrix_of_entries u) (upper_matrix s.graph (sheaf_of s) d e)
-      → MapsUpBefore (before_edge e + d) ls us → MapsUpBefore (before_edge e + (d + 1)) (ls ++ l ∷ []) (us ++ u ∷ [])
-  up_more e d ls us l u past small lower_is upper_is h =
+  pub up_more : (e d : ℕ) (ls : List EntryTable) (l : EntryTable) → from ≤ e → d ≤ s.degree → SameMatrix (matrix_of_entries l) (lower_matrix s.graph (sheaf_of s) d e) → LowerBefore (before_edge e + d) ls → LowerBefore (before_edge e + (d + 1)) (ls ++ l ∷ [])
+  up_more e d ls l past small lower_is h =
       let next : (before_edge e + d) + 1 ≡ before_edge e + (d + 1) = omega arith in
-      let below : Matrix → Type 0 = λ a. SameMatrix (matrix_of_entries l) a in
-      let above : Matrix → Type 0 = λ a. SameMatrix (matrix_of_entries u) a in
-      subst (λ n. MapsUpBefore n (ls ++ l ∷ []) (us ++ u ∷ [])) next
-      (record {
-        lower_before = maps_more (by_edge from s.degree (lower_matrix s.graph (sheaf_of s))) (before_edge e + d) ls l h.lower_before (subst below (sym (by_edge_at from s.degree (lower_matrix s.graph (sheaf_of s)) e d past small)) lower_is);
-        upper_before = maps_more (by_edge from s.degree (upper_matrix s.graph (sheaf_of s))) (before_edge e + d) us u h.upper_before (subst above (sym (by_edge_at from s.degree (upper_matrix s.graph (sheaf_of s)) e d past small)) upper_is);
-      })
+      subst (λ n. LowerBefore n (ls ++ l ∷ [])) next
+      (maps_more lower_by_edge (before_edge e + d) ls l h (subst (λ (a : Matrix). SameMatrix (matrix_of_entries l) a) (sym (by_edge_at from s.degree (lower_matrix s.graph (sheaf_of s)) e d past small)) lower_is))
 
-  pub up_ends : (e d : ℕ) (ls us : List EntryTable) → from ≤ e → d ≡ s.degree + 1 → MapsUpBefore (before_edge e + d) ls us → MapsUpBefore (before_edge (e + 1)) ls us
-  up_ends e d ls us past last h = subst (λ n. MapsUpBefore n ls us) (ap (λ z. before_edge e + z) last ∙ next_edge from s.degree (lower_matrix s.graph (sheaf_of s)) e past) h
+  pub up_ends : (e d : ℕ) (ls : List EntryTable) → from ≤ e → d ≡ s.degree + 1 → LowerBefore (before_edge e + d) ls → LowerBefore (before_edge (e + 1)) ls
+  up_ends e d ls past last h = subst (λ n. LowerBefore n ls) (ap (λ z. before_edge e + z) last ∙ next_edge from s.degree (lower_matrix s.graph (sheaf_of s)) e past) h
 
-  module _ (x to : ℕ) (range : IsUpRange s.graph x from to) (ls us : List EntryTable) (h : MapsUpBefore (before_edge to) ls us) where
-    pub lower_all : AreMapsUp s x (lower_matrix s.graph (sheaf_of s)) ls
-    lower_all = maps_all from s.degree (lower_matrix s.graph (sheaf_of s)) s x to ls range refl h.lower_before
-
-    pub upper_all : AreMapsUp s x (upper_matrix s.graph (sheaf_of s)) us
-    upper_all = maps_all from s.degree (upper_matrix s.graph (sheaf_of s)) s x to us range refl h.upper_before
+  pub lower_all : (x to e : ℕ) (ls : List EntryTable) → IsUpRange s.graph x from to → e ≡ to → LowerBefore (before_edge e) ls → AreMapsUp s x (lower_matrix s.graph (sheaf_of s)) ls
+  lower_all x to e ls range last h = maps_all from s.degree (lower_matrix s.graph (sheaf_of s)) s x to ls range refl (subst (λ z. LowerBefore (before_edge z) ls) last h)
 
 -- the maps of the edge e, which goes up from the next vertex x as number k, are those of the sheaf with the stalk that comes there
 module _ {F : Type 0} (s : SheafState F) (left : length s.stalks < vertex_count s.graph) (is : IsGraph s.graph) (x : ℕ) (next : x ≡ next_vertex s) (degrees : List ℕ) (lifts : List (List Entry)) (e k : ℕ) (below : e < edge_count s.graph) (at : IsUpPlace s.graph x e k) (starts : lower s.graph e ≡ x) where
@@ -206,9 +188,6 @@ module _ {F : Type 0} (s : SheafState F) (left : length s.stalks < vertex_count 
         pub new_lower : SameMatrix a (lower_map (prime_of (label_of t)) r (coordinate_of (label_of t)) (leading_of (label_of t)) degrees into own d) → SameMatrix a (lower_matrix s.graph then_sheaf d e)
         new_lower same = subst (SameMatrix a) (lower_map_is s.graph then_sheaf s.degree e d r t table rank degrees into own (ap (λ (u : Stalk). u.degrees) (sym stalk_below)) degrees_above lift_is) same
 
-        pub new_upper : SameMatrix a (upper_map (prime_of (label_of t)) r (coordinate_of (label_of t)) (leading_of (label_of t)) into d) → SameMatrix a (upper_matrix s.graph then_sheaf d e)
-        new_upper same = subst (SameMatrix a) (upper_map_is s.graph then_sheaf s.degree e d r t table rank into degrees_above) same
-
       pub own_fit : (r : ℕ) → r ≡ s.graph.rank → IsStalk s x degrees lifts → LiftsFit r degrees into own
       own_fit r rank stalk g inside =
           let within : length own ≤ n = omega (arith, ap length own_is, length-take (k * n + n - k * n) (drop (k * n) lifts)) in
@@ -220,11 +199,10 @@ module _ {F : Type 0} (s : SheafState F) (left : length s.stalks < vertex_count 
 
 -- a table of the stalk that comes
 pub new_table : {F : Type 0} (s : SheafState F) (left : length s.stalks < vertex_count s.graph) (is : IsGraph s.graph) (x : ℕ) (t : StalkTable) → x ≡ next_vertex s → t.rank ≡ s.graph.rank → length t.degrees < 2 ^ 32
-    → IsStalk s x t.degrees t.lifts → All (λ v. ValuesBelow v s.graph.prime) t.lifts → AreModulesUp s x t.edges
+    → IsStalk s x t.degrees t.lifts → All (λ v. ValuesBelow v s.graph.prime) t.lifts
     → AreMapsUp (with_stalk s (stalk_in t)) x (lower_matrix s.graph (sheaf_of (with_stalk s (stalk_in t)))) t.lower
-    → AreMapsUp (with_stalk s (stalk_in t)) x (upper_matrix s.graph (sheaf_of (with_stalk s (stalk_in t)))) t.upper
     → IsStalkTable (with_stalk s (stalk_in t)) x t
-new_table s left is x t next rank few stalk values modules lower_maps upper_maps =
+new_table s left is x t next rank few stalk values lower_maps =
     let here : stalk_of (with_stalk s (stalk_in t)) x ≡ stalk_in t = stalk_new s (stalk_in t) left x next in
     let at_least : next_vertex s ≤ x = omega (arith, next) in
     record {
@@ -234,7 +212,5 @@ new_table s left is x t next rank few stalk values modules lower_maps upper_maps
       few = few;
       stalk = stalk_still s (stalk_in t) left is x at_least t.degrees t.lifts stalk;
       values = values;
-      modules = modules_still s (stalk_in t) left is x at_least t.edges modules;
       lower_maps = lower_maps;
-      upper_maps = upper_maps;
     }

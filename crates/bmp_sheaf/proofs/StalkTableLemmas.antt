@@ -1,22 +1,24 @@
 -- What is read from the table of a stalk.
-use Rattle.std.proofs.Common.{◌≡◌, ℕ, ◌+◌, ◌-◌, ◌*◌, ◌/◌, ◌%◌, ◌<◌, ◌≤◌, List, [], length, sym, ap, ap₂, subst, ◌∙◌, arith, get_or}
+use Rattle.std.proofs.Common.{◌≡◌, ℕ, ◌+◌, ◌-◌, ◌*◌, ◌/◌, ◌%◌, ◌<◌, ◌≤◌, List, [], length, refl, sym, ap, ap₂, subst, ◌∙◌, arith, get_or}
 use Rattle.std.specs.Prelude.{slice_index, slice_index_or}
-use Rattle.std.proofs.lemmas.List.{get_or_read}
+use Rattle.std.proofs.lemmas.List.{get_or_read, get_or_default}
 use Rattle.std.proofs.Math.Nat.{mul-le-mul_right}
 use Rattle.std.proofs.lemmas.Nat.{div-mul-add, mod-mul-add, mul-add-lt}
-use Rattle.bmp_math.specs.Matrices.{Matrix, NumbersBelow, SameMatrix}
+use Rattle.bmp_math.specs.Matrices.{NumbersBelow, SameMatrix}
 use Rattle.bmp_linear.specs.declared.vector.Entry.{Entry}
-use Rattle.bmp_linear.specs.SparseVectors.{FitsBelow}
+use Rattle.bmp_linear.specs.SparseVectors.{FitsBelow, ValuesBelow}
 use Rattle.bmp_linear.specs.RowTables.{EntryTable, matrix_of_entries}
-use Rattle.bmp_module.specs.declared.quotient.Quotient.{Quotient}
-use Rattle.bmp_graph.specs.Graph.{edge_count, lower, upper}
+use Rattle.bmp_graph.specs.Graph.{vertex_count, edge_count, lower, upper}
 use Rattle.bmp_sheaf.specs.Fields.{IsOverField}
 use Rattle.bmp_sheaf.specs.Coordinates.{stalk_count}
 use Rattle.bmp_sheaf.specs.Numbers.{lower_matrix, upper_matrix}
-use Rattle.bmp_sheaf.specs.Written.{first_edge, up_count, IsUpPlace}
-use Rattle.bmp_sheaf.specs.States.{SheafState, stalk_of, sheaf_of}
+use Rattle.bmp_sheaf.specs.Written.{first_edge, up_count, IsUpPlace, lift_place}
+use Rattle.bmp_sheaf.specs.States.{SheafState, stalk_of, IsThere, sheaf_of}
 use Rattle.bmp_sheaf.specs.StalkFaults.{lift_room, IsStalk}
-use Rattle.bmp_sheaf.specs.StalkTables.{StalkTable, IsEdgeModule, AreMapsUp, IsStalkTable, map_place}
+use Rattle.bmp_sheaf.specs.StalkTables.{StalkTable, no_table, IsStalkTable, map_place, IsKept}
+use Rattle.bmp_sheaf.specs.UpperTables.{UpperTable, upper_map_of, IsUpperTable, IsEdgeModule, HasUpper, AreUppers}
+use Rattle.bmp_sheaf.specs.declared.label_tables.LabelTables.{LabelTables}
+use Rattle.bmp_sheaf.proofs.UpperTableLemmas.{upper_map_is}
 use Rattle.bmp_math.proofs.SameMatrices.{numbers_below_same}
 use Rattle.bmp_sheaf.proofs.EdgeMaps.{lower_numbers_below, upper_numbers_below}
 
@@ -44,26 +46,11 @@ edge_lifts_inside s x degrees lifts is e k at =
 
 module _ {F : Type 0} (s : SheafState F) (x : ℕ) (t : StalkTable) (is : IsStalkTable s x t) (e : ℕ) (below : e < edge_count s.graph) (starts : x ≡ lower s.graph e) where
   module _ (d k : ℕ) (rows : EntryTable) (small : d ≤ s.degree) (place : k ≡ map_place s.graph s.degree e d) where
-    map_kept : (M : ℕ → ℕ → Matrix) (kept : List EntryTable) → AreMapsUp s x M kept → rows ≡ get_or kept k rows → SameMatrix (matrix_of_entries rows) (M d e)
-    map_kept M kept maps read = subst (λ r. SameMatrix (matrix_of_entries r) (M d e)) (sym (read ∙ ap (λ z. get_or kept z rows) place)) (maps.each e d rows below (sym starts) small)
-
     pub lower_kept : rows ≡ get_or t.lower k rows → SameMatrix (matrix_of_entries rows) (lower_matrix s.graph (sheaf_of s) d e)
-    lower_kept = map_kept (lower_matrix s.graph (sheaf_of s)) t.lower is.lower_maps
-
-    pub upper_kept : rows ≡ get_or t.upper k rows → SameMatrix (matrix_of_entries rows) (upper_matrix s.graph (sheaf_of s) d e)
-    upper_kept = map_kept (upper_matrix s.graph (sheaf_of s)) t.upper is.upper_maps
+    lower_kept read = subst (λ r. SameMatrix (matrix_of_entries r) (lower_matrix s.graph (sheaf_of s) d e)) (sym (read ∙ ap (λ z. get_or t.lower z rows) place)) (is.lower_maps.each e d rows below (sym starts) small)
 
     pub lower_kept_below : IsOverField s.graph → rows ≡ get_or t.lower k rows → NumbersBelow s.graph.prime (matrix_of_entries rows)
     lower_kept_below over read = numbers_below_same (lower_kept read) s.graph.prime (lower_numbers_below s.graph over (sheaf_of s) d e below)
-
-    pub upper_kept_below : IsOverField s.graph → rows ≡ get_or t.upper k rows → NumbersBelow s.graph.prime (matrix_of_entries rows)
-    upper_kept_below over read = numbers_below_same (upper_kept read) s.graph.prime (upper_numbers_below s.graph over (sheaf_of s) d e below)
-
-  -- the module of the edge e
-  pub module_kept : (k : ℕ) (m : Quotient) → IsUpPlace s.graph (lower s.graph e) e k → m ≡ get_or t.edges k m → IsEdgeModule s e m
-  module_kept k m at read =
-      let place : k ≡ e - first_edge s.graph x = at.place ∙ ap (λ y. e - first_edge s.graph y) (sym starts) in
-      subst (IsEdgeModule s e) (sym (read ∙ ap (λ z. get_or t.edges z m) place)) (is.modules.each e m below (sym starts))
 
   -- the lift on the edge e of the generator g
   module _ (k g : ℕ) (at : IsUpPlace s.graph (lower s.graph e) e k) (generator : g < length (stalk_of s (lower s.graph e)).degrees) where
@@ -73,11 +60,52 @@ module _ {F : Type 0} (s : SheafState F) (x : ℕ) (t : StalkTable) (is : IsStal
     here : IsUpPlace s.graph x e k
     here = subst (λ y. IsUpPlace s.graph y e k) (sym starts) at
 
-    pub lift_kept_fits : (n : ℕ) (v : List Entry) → n ≡ length t.degrees → v ≡ slice_index_or t.lifts (k * n + g) v → FitsBelow v (stalk_count s.graph.rank (stalk_of s (upper s.graph e)).degrees (slice_index (stalk_of s (lower s.graph e)).degrees g))
-    lift_kept_fits n v n_is read =
-        let is_generator : g < length t.degrees = omega (arith, generator, ap length degrees_are) in
-        let inside : k * length t.degrees + g < length t.lifts = lift_inside s x t.degrees t.lifts is.stalk e k g here is_generator in
-        let v_is : slice_index_or t.lifts (k * length t.degrees + g) [] ≡ v = sym (get_or_read t.lifts (k * length t.degrees + g) v inside (read ∙ ap (λ z. slice_index_or t.lifts (k * z + g) v) n_is) []) in
-        subst (λ w. FitsBelow w (stalk_count s.graph.rank (stalk_of s (upper s.graph e)).degrees (slice_index (stalk_of s (lower s.graph e)).degrees g))) v_is
-        (subst (λ y. FitsBelow (slice_index_or t.lifts (k * length t.degrees + g) []) (stalk_count s.graph.rank (stalk_of s (upper s.graph e)).degrees (slice_index y g))) degrees_are
-        (lift_fits s x t.degrees t.lifts is.stalk e k g here is_generator))
+    module _ (n : ℕ) (v : List Entry) (many : n ≡ length t.degrees) (read : v ≡ slice_index_or t.lifts (k * n + g) v) where
+      is_generator : g < length t.degrees
+      is_generator = omega (arith, generator, ap length degrees_are)
+
+      inside : k * length t.degrees + g < length t.lifts
+      inside = lift_inside s x t.degrees t.lifts is.stalk e k g here is_generator
+
+      v_is : slice_index_or t.lifts (k * length t.degrees + g) [] ≡ v
+      v_is = sym (get_or_read t.lifts (k * length t.degrees + g) v inside (read ∙ ap (λ z. slice_index_or t.lifts (k * z + g) v) many) [])
+
+      pub lift_kept : slice_index_or (stalk_of s (lower s.graph e)).lifts (lift_place s.graph (λ y. (stalk_of s y).degrees) e g) [] ≡ v
+      lift_kept =
+          let lifts_are : t.lifts ≡ (stalk_of s (lower s.graph e)).lifts = is.lifts ∙ ap (λ y. (stalk_of s y).lifts) starts in
+          ap₂ (λ (vs : List (List Entry)) i. slice_index_or vs i []) (sym lifts_are) (ap₂ (λ a b. a * b + g) (sym at.place) (ap length (sym degrees_are))) ∙ v_is
+
+      pub lift_kept_values : ValuesBelow v s.graph.prime
+      lift_kept_values = subst (λ w. ValuesBelow w s.graph.prime) v_is (is.values (k * length t.degrees + g) [] inside)
+
+      pub lift_kept_fits : FitsBelow v (stalk_count s.graph.rank (stalk_of s (upper s.graph e)).degrees (slice_index (stalk_of s (lower s.graph e)).degrees g))
+      lift_kept_fits =
+          subst (λ w. FitsBelow w (stalk_count s.graph.rank (stalk_of s (upper s.graph e)).degrees (slice_index (stalk_of s (lower s.graph e)).degrees g))) v_is
+          (subst (λ y. FitsBelow (slice_index_or t.lifts (k * length t.degrees + g) []) (stalk_count s.graph.rank (stalk_of s (upper s.graph e)).degrees (slice_index y g))) degrees_are
+          (lift_fits s x t.degrees t.lifts is.stalk e k g here is_generator))
+
+-- the tables of upper maps, where the table u is read at the number that stands at the place k for the edge e
+module _ {F : Type 0} (p : ℕ) (s : SheafState F) (labels : LabelTables) (us : List UpperTable) (ts : List StalkTable) (h : IsKept p s labels us ts) (e : ℕ) (below : e < edge_count s.graph) (there : IsThere s (lower s.graph e)) where
+  pub upper_number : (y k : ℕ) (t : StalkTable) → y ≡ lower s.graph e → IsUpPlace s.graph (lower s.graph e) e k → t ≡ get_or ts (vertex_count s.graph - 1 - y) t → (k < length t.uppers) × HasUpper s us e (get_or t.uppers k 0)
+  upper_number y k t starts at read =
+      let inside : vertex_count s.graph - 1 - lower s.graph e < length ts = omega (arith, there.0, there.1, h.stalks.as_many) in
+      let own : get_or ts (vertex_count s.graph - 1 - lower s.graph e) no_table ≡ t =
+      sym (read ∙ ap (λ z. get_or ts (vertex_count s.graph - 1 - z) t) starts ∙ get_or_default ts (vertex_count s.graph - 1 - lower s.graph e) t no_table inside) in
+      let uppers : AreUppers s us (lower s.graph e) t.uppers = subst (λ (u : StalkTable). AreUppers s us (lower s.graph e) u.uppers) own (h.stalks.uppers (lower s.graph e) there) in
+      (omega (arith, uppers.counted, at.within), subst (λ z. HasUpper s us e (get_or t.uppers z 0)) (sym at.place) (uppers.each e below refl))
+
+  pub upper_read : (n : ℕ) (u : UpperTable) → HasUpper s us e n → u ≡ get_or us n u → IsEdgeModule s e u.quotient × IsUpperTable s.degree u
+  upper_read n u has read = (
+    subst (λ (v : UpperTable). IsEdgeModule s e v.quotient) (sym read) (has.is u),
+    subst (IsUpperTable s.degree) (sym read) (h.upper_maps n u has.number),
+  )
+
+-- the rows in a table of upper maps
+module _ {F : Type 0} (s : SheafState F) (e : ℕ) (below : e < edge_count s.graph) (d : ℕ) (small : d ≤ s.degree) (u : UpperTable) (is : IsUpperTable s.degree u) (module_is : IsEdgeModule s e u.quotient) (rows : EntryTable) (read : rows ≡ get_or u.rows d rows) where
+  pub upper_kept : SameMatrix (matrix_of_entries rows) (upper_matrix s.graph (sheaf_of s) d e)
+  upper_kept =
+      subst (SameMatrix (matrix_of_entries rows)) (upper_map_is s e d u.quotient module_is)
+      (subst (λ r. SameMatrix (matrix_of_entries r) (upper_map_of u.quotient d)) (sym read) (is.each d rows (omega (arith, small))))
+
+  pub upper_kept_below : IsOverField s.graph → NumbersBelow s.graph.prime (matrix_of_entries rows)
+  upper_kept_below over = numbers_below_same upper_kept s.graph.prime (upper_numbers_below s.graph over (sheaf_of s) d e below)

@@ -1,5 +1,6 @@
 -- The tables of normal forms for the labels of a graph. In the order to read:
---   IsBy t x                     the label of t has the prime, the rank and the coordinates of x
+--   SameLabel x y                x has the prime, the rank and the coordinates of y
+--   IsBy t x                     so has the label of t those of x
 --   IsTableOf G D e t            t is by the label of the edge e, for the degrees from 0 to D
 --   HasTable G D tables k e      one of the tables, the one numbered k, is that of the edge e
 --   HasTables G D n tables numbers     each of the first n edges has its table, at its number
@@ -12,11 +13,14 @@ use Rattle.bmp_module.specs.declared.normal_table.NormalTable.{NormalTable}
 use Rattle.bmp_sheaf.specs.Coordinates.{leading}
 use Rattle.bmp_module.specs.NormalTables.{label_of, degrees_of}
 
-pub record IsBy (t : NormalTable) (x : Label) : Type 0 where
-  pub prime : prime_of (label_of t) ≡ prime_of x
-  pub rank : rank_of (label_of t) ≡ rank_of x
-  pub leading : leading_of (label_of t) ≡ leading_of x
-  pub coordinates : coordinate_of (label_of t) ≡ coordinate_of x
+pub record SameLabel (x y : Label) : Type 0 where
+  pub prime : prime_of x ≡ prime_of y
+  pub rank : rank_of x ≡ rank_of y
+  pub leading : leading_of x ≡ leading_of y
+  pub coordinates : coordinate_of x ≡ coordinate_of y
+
+abbrev pub IsBy : NormalTable → Label → Type 0
+IsBy t x = SameLabel (label_of t) x
 
 pub record IsTableOf (G : Graph) (D e : ℕ) (t : NormalTable) : Type 0 where
   pub prime : prime_of (label_of t) ≡ G.prime

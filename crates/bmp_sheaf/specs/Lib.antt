@@ -9,6 +9,7 @@ pub mod LabelTables
 pub mod EdgeMaps
 pub mod States
 pub mod StalkFaults
+pub mod UpperTables
 pub mod StalkTables
 pub mod EdgeModules
 pub mod Boundaries

@@ -14,7 +14,8 @@ ghost use Rattle.bmp_module.specs.Columns.{matrix_of_map};
 ghost use Rattle.bmp_module.specs.NormalTables.{label_of, degrees_of as table_degrees_of};
 ghost use Rattle.bmp_module.specs.QuotientModules.{free_of, label_of as quotient_label_of};
 ghost use Rattle.bmp_sheaf.specs.Units.{unit_element};
-ghost use Rattle.bmp_sheaf.specs.EdgeModules.{AreImagesOf, lower_map_on, upper_map_on};
+ghost use Rattle.bmp_sheaf.specs.EdgeModules.{AreImagesOf, lower_map_on};
+ghost use Rattle.bmp_sheaf.specs.UpperTables.{upper_map_of};
 ghost use Rattle.bmp_sheaf.specs.EdgeMaps.{LiftsFit, lift_by};
 
 use bmp_field::Field;
@@ -102,7 +103,7 @@ fn rows_of<F: Field, N: GradedModule<F>>(
 }
 
 /// The generators of the module, as elements of its quotient.
-fn generators<F: Field>(
+pub(crate) fn generators<F: Field>(
     alloc: Global,
     f: &F,
     quotient: &Quotient,
@@ -126,7 +127,7 @@ fn generators<F: Field>(
 }
 
 /// The lifts of the generators of `from`, as elements of the quotient.
-fn lifted<F: Field>(
+pub(crate) fn lifted<F: Field>(
     alloc: Global,
     f: &F,
     quotient: &Quotient,
@@ -157,84 +158,54 @@ fn lifted<F: Field>(
     Ok(images)
 }
 
-/// The two maps to the module of one edge, in one degree.
-#[derive(Drop)]
-pub(crate) struct EdgeMaps<F: Field> {
-    /// The lift, from the stalk at the lower end.
-    pub(crate) lower: SparseRows<F>,
-    /// From the stalk at the upper end.
-    pub(crate) upper: SparseRows<F>,
-}
-
-/// The images of the generators at the two ends of an edge, in the edge's module.
-#[derive(Drop)]
-pub(crate) struct EdgeImages<F: Field> {
-    /// The lifts of the generators at the lower end.
-    lower: Vec<Coordinates<F>>,
-    /// The generators at the upper end.
-    upper: Vec<Coordinates<F>>,
-}
-
-/// The images in the edge's module of the generators of the lower stalk `from`, by their lifts, and of the upper one's.
-pub(crate) fn edge_images<F: Field>(
-    alloc: Global,
-    f: &F,
-    quotient: &Quotient,
-    from: &Free,
-    lifts: &[Vector],
-) -> Result<EdgeImages<F>, AllocError>
-    requires prime { F.size f.now ≡ prime_of (quotient_label_of quotient.now) }
-    requires low { All (λ a. a ≤ 6) (degrees_of from.now) }
-    requires high { All (λ a. a ≤ 6) (degrees_of (free_of quotient.now)) }
-    requires lifts { length lifts.now ≡ length (degrees_of from.now) }
-    requires fit { LiftsFit (rank_of (free_of quotient.now)) (degrees_of from.now) (degrees_of (free_of quotient.now)) lifts.now }
-    requires values { All (λ v. ValuesBelow v (F.size f.now)) lifts.now }
-    ensures lower { let x = quotient_label_of quotient.now in let into = degrees_of (free_of quotient.now) in
-        IfOk result (λ images. AreImagesOf (⟦<Quotient as GradedModule<F>>⟧.is_element quotient.now f.now) (⟦<Quotient as GradedModule<F>>⟧.degree quotient.now)
-        (⟦<Quotient as GradedModule<F>>⟧.coordinate quotient.now f.now) (edge_number (prime_of x) (label_rank_of x) (coordinate_of x) (leading_of x) into)
-        (stalk_count (label_rank_of x - 1) into) (degrees_of from.now) (lift_by (label_rank_of x) (degrees_of from.now) into lifts.now) images.lower.items) }
-    ensures upper { let x = quotient_label_of quotient.now in let into = degrees_of (free_of quotient.now) in
-        IfOk result (λ images. AreImagesOf (⟦<Quotient as GradedModule<F>>⟧.is_element quotient.now f.now) (⟦<Quotient as GradedModule<F>>⟧.degree quotient.now)
-        (⟦<Quotient as GradedModule<F>>⟧.coordinate quotient.now f.now) (edge_number (prime_of x) (label_rank_of x) (coordinate_of x) (leading_of x) into)
-        (stalk_count (label_rank_of x - 1) into) into unit_element images.upper.items) }
-{
-    let lower = lifted(alloc, f, quotient, from, lifts)?;
-    let upper = generators(alloc, f, quotient)?;
-    Ok(EdgeImages { lower, upper })
-}
-
-/// The maps to an edge's module in degree `d`, by the images of the generators, which are those by the lifts. The table is that of
-/// the module's label. Wants memory also where there are 2^32 or more coordinates.
-pub(crate) fn edge_maps<F: Field>(
+/// The map to an edge's module in degree `d` from the stalk at the lower end, by the images of its generators, which are those by
+/// the lifts. The table is that of the module's label. Wants memory also where there are 2^32 or more coordinates.
+pub(crate) fn lower_rows<F: Field>(
     alloc: Global,
     f: &F,
     table: &NormalTable,
     quotient: &Quotient,
     from: &Free,
     lifts: &[Vector],
-    images: &EdgeImages<F>,
+    images: &[Coordinates<F>],
     d: u32,
-) -> Result<EdgeMaps<F>, AllocError>
+) -> Result<SparseRows<F>, AllocError>
     requires prime { F.size f.now ≡ prime_of (label_of table.now) }
     requires label { quotient_label_of quotient.now ≡ label_of table.now }
     requires from { rank_of from.now ≡ label_rank_of (label_of table.now) }
     requires degree { d < table_degrees_of table.now }
-    requires lower { let x = quotient_label_of quotient.now in let into = degrees_of (free_of quotient.now) in
+    requires images { let x = quotient_label_of quotient.now in let into = degrees_of (free_of quotient.now) in
         AreImagesOf (⟦<Quotient as GradedModule<F>>⟧.is_element quotient.now f.now) (⟦<Quotient as GradedModule<F>>⟧.degree quotient.now)
         (⟦<Quotient as GradedModule<F>>⟧.coordinate quotient.now f.now) (edge_number (prime_of x) (label_rank_of x) (coordinate_of x) (leading_of x) into)
-        (stalk_count (label_rank_of x - 1) into) (degrees_of from.now) (lift_by (label_rank_of x) (degrees_of from.now) into lifts.now) images.now.lower.items }
-    requires upper { let x = quotient_label_of quotient.now in let into = degrees_of (free_of quotient.now) in
-        AreImagesOf (⟦<Quotient as GradedModule<F>>⟧.is_element quotient.now f.now) (⟦<Quotient as GradedModule<F>>⟧.degree quotient.now)
-        (⟦<Quotient as GradedModule<F>>⟧.coordinate quotient.now f.now) (edge_number (prime_of x) (label_rank_of x) (coordinate_of x) (leading_of x) into)
-        (stalk_count (label_rank_of x - 1) into) into unit_element images.now.upper.items }
-    ensures lower { IfOk result (λ maps. SameMatrix (matrix_of_entries maps.lower)
+        (stalk_count (label_rank_of x - 1) into) (degrees_of from.now) (lift_by (label_rank_of x) (degrees_of from.now) into lifts.now) images.now }
+    ensures { IfOk result (λ rows. SameMatrix (matrix_of_entries rows)
         (lower_map_on table.now (free_of quotient.now) d (degrees_of from.now) lifts.now)) }
-    ensures upper { IfOk result (λ maps. SameMatrix (matrix_of_entries maps.upper)
-        (upper_map_on table.now (free_of quotient.now) d)) }
+{
+    let module = TabledQuotient::new(quotient, table);
+    let rows = rows_of(alloc, f, from, &module, images, d)?;
+    Ok(rows)
+}
+
+/// The same from the stalk at the upper end, which the module is a quotient of.
+pub(crate) fn upper_rows<F: Field>(
+    alloc: Global,
+    f: &F,
+    table: &NormalTable,
+    quotient: &Quotient,
+    images: &[Coordinates<F>],
+    d: u32,
+) -> Result<SparseRows<F>, AllocError>
+    requires prime { F.size f.now ≡ prime_of (label_of table.now) }
+    requires label { quotient_label_of quotient.now ≡ label_of table.now }
+    requires degree { d < table_degrees_of table.now }
+    requires images { let x = quotient_label_of quotient.now in let into = degrees_of (free_of quotient.now) in
+        AreImagesOf (⟦<Quotient as GradedModule<F>>⟧.is_element quotient.now f.now) (⟦<Quotient as GradedModule<F>>⟧.degree quotient.now)
+        (⟦<Quotient as GradedModule<F>>⟧.coordinate quotient.now f.now) (edge_number (prime_of x) (label_rank_of x) (coordinate_of x) (leading_of x) into)
+        (stalk_count (label_rank_of x - 1) into) into unit_element images.now }
+    ensures { IfOk result (λ rows. SameMatrix (matrix_of_entries rows) (upper_map_of quotient.now d)) }
 {
     let module = TabledQuotient::new(quotient, table);
     let into = quotient.free();
-    let lower = rows_of(alloc, f, from, &module, &images.lower, d)?;
-    let upper = rows_of(alloc, f, into, &module, &images.upper, d)?;
-    Ok(EdgeMaps { lower, upper })
+    let rows = rows_of(alloc, f, into, &module, images, d)?;
+    Ok(rows)
 }

@@ -11,6 +11,7 @@ mod rules;
 pub mod sheaf;
 mod sizes;
 mod stalk;
+mod upper_maps;
 
 pub use boundary::BoundaryRows;
 pub use fault::SheafFault;

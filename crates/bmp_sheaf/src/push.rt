@@ -3,12 +3,12 @@ ghost use Rattle.std.specs.Prelude.{◌≡◌, ℕ, ◌+◌, ◌-◌, ◌*◌, �
 ghost use Rattle.bmp_linear.specs.SparseVectors.{ValuesBelow};
 ghost use Rattle.bmp_module.specs.FreeModules.{rank_of, degrees_of};
 ghost use Rattle.bmp_graph.specs.Graph.{vertex_count};
-ghost use Rattle.bmp_sheaf.specs.Numbers.{lower_matrix, upper_matrix};
+ghost use Rattle.bmp_sheaf.specs.Numbers.{lower_matrix};
 ghost use Rattle.bmp_sheaf.specs.States.{Stalk, next_vertex, with_stalk, sheaf_of};
 ghost use Rattle.bmp_sheaf.specs.StalkFaults.{IsStalk};
-ghost use Rattle.bmp_sheaf.specs.StalkTables.{AreModulesUp, AreMapsUp, IsStalkTable, stalk_in};
+ghost use Rattle.bmp_sheaf.specs.StalkTables.{AreMapsUp, IsStalkTable, stalk_in};
 
-use crate::edge_maps::{edge_images, edge_maps};
+use crate::edge_maps::{lifted, lower_rows};
 use crate::sheaf::Sheaf;
 use crate::stalk::StalkPart;
 use bmp_field::Field;
@@ -27,62 +27,51 @@ fn copied(alloc: Global, vectors: &[Vector]) -> Result<Vectors, AllocError>
     Ok(copy)
 }
 
-/// The modules of the edges going up from a vertex, and the maps to them from the stalks at the lower and at the upper ends.
-#[derive(Drop)]
-struct MapsUp<F: Field> {
-    modules: Vec<Quotient>,
-    lower: Vec<SparseRows<F>>,
-    upper: Vec<SparseRows<F>>,
-}
-
 impl<F: Field> Sheaf<F> {
-    /// The modules of the edges going up from `x`, the next vertex, and the maps to them in each degree, where the stalk `from`
-    /// with these lifts comes to `x`.
-    fn maps_up(&self, x: u32, from: &Free, lifts: &[Vector]) -> Result<MapsUp<F>, AllocError>
+    /// By edge going up from `x`, the next vertex, and then by degree the map to the edge's module, where the stalk `from` with
+    /// these lifts comes to `x`.
+    fn lower_up(
+        &self,
+        x: u32,
+        from: &Free,
+        lifts: &[Vector],
+    ) -> Result<Vec<SparseRows<F>>, AllocError>
         requires left { length self.now.stalks < vertex_count self.now.graph }
         requires next { x ≡ next_vertex self.now }
         requires rank { rank_of from.now ≡ self.now.graph.rank }
         requires stalk { IsStalk self.now x (degrees_of from.now) lifts.now }
         requires values { All (λ v. ValuesBelow v self.now.graph.prime) lifts.now }
-        ensures modules { IfOk result (λ maps. AreModulesUp self.now x maps.modules.items) }
-        ensures lower { let s = with_stalk self.now (record { degrees = degrees_of from.now; lifts = lifts.now }) in
-            IfOk result (λ maps. AreMapsUp s x (lower_matrix s.graph (sheaf_of s)) maps.lower.items) }
-        ensures upper { let s = with_stalk self.now (record { degrees = degrees_of from.now; lifts = lifts.now }) in
-            IfOk result (λ maps. AreMapsUp s x (upper_matrix s.graph (sheaf_of s)) maps.upper.items) }
+        ensures { let s = with_stalk self.now (record { degrees = degrees_of from.now; lifts = lifts.now }) in
+            IfOk result (λ lower. AreMapsUp s x (lower_matrix s.graph (sheaf_of s)) lower.items) }
     {
         let alloc = self.allocator();
+        let f = self.field();
         let generators = from.generators() as usize;
         let (first, past) = self.graph().up(x);
-        let mut modules = Vec::with_capacity(alloc, (past - first) as usize)?;
         let mut lower = Vec::new(alloc);
-        let mut upper = Vec::new(alloc);
         for e in first..past {
             let into = self.stalk(self.graph().edge(e).upper);
             let start = (e - first) as usize * generators;
             let own = &lifts[start..start + generators];
             let table = self.table(e);
             let module = Quotient::new(alloc, into, table.label())?;
-            let images = edge_images(alloc, self.field(), &module, from, own)?;
+            let images = lifted(alloc, f, &module, from, own)?;
             for d in 0..self.degree() + 1 {
-                let maps = edge_maps(alloc, self.field(), table, &module, from, own, &images, d)?;
-                lower.push(maps.lower)?;
-                upper.push(maps.upper)?;
+                let rows = lower_rows(alloc, f, table, &module, from, own, &images, d)?;
+                lower.push(rows)?;
             }
-            modules.push(module)?;
         }
-        Ok(MapsUp {
-            modules,
-            lower,
-            upper,
-        })
+        Ok(lower)
     }
 
-    /// What is kept of the stalk with these degrees and lifts, which comes to `x`, the next vertex.
+    /// What is kept of the stalk with these degrees and lifts, which comes to `x`, the next vertex, beside the numbers of its
+    /// edges' maps from their upper ends.
     pub(crate) fn new_part(
         &self,
         x: u32,
         degrees: &[u32],
         lifts: &[Vector],
+        uppers: Vec<usize>,
     ) -> Result<StalkPart<F>, AllocError>
         requires left { length self.now.stalks < vertex_count self.now.graph }
         requires next { x ≡ next_vertex self.now }
@@ -91,16 +80,17 @@ impl<F: Field> Sheaf<F> {
         requires values { All (λ v. ValuesBelow v self.now.graph.prime) lifts.now }
         ensures stalk { IfOk result (λ part. stalk_in part ≡ record { degrees = degrees.now; lifts = lifts.now }) }
         ensures table { IfOk result (λ part. IsStalkTable (with_stalk self.now (stalk_in part)) x part) }
+        ensures uppers { IfOk result (λ part. part.uppers ≡ uppers.items) }
     {
         let alloc = self.allocator();
         let module = Free::new(alloc, self.graph().rank(), degrees)?;
-        let maps = self.maps_up(x, &module, lifts)?;
+        let lower = self.lower_up(x, &module, lifts)?;
+        let lifts = copied(alloc, lifts)?;
         Ok(StalkPart {
             module,
-            lifts: copied(alloc, lifts)?,
-            edges: maps.modules,
-            lower: maps.lower,
-            upper: maps.upper,
+            lifts,
+            lower,
+            uppers,
         })
     }
 }

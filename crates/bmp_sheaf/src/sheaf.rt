@@ -13,11 +13,13 @@ ghost use Rattle.bmp_sheaf.specs.LabelTables.{IsTableOf};
 ghost use Rattle.bmp_sheaf.specs.ModuleMaps.{stalk_module, edge_module, from_lower, from_upper};
 ghost use Rattle.bmp_sheaf.specs.States.{Stalk, SheafState, IsState, stalk_of, IsThere, next_vertex, with_stalk, sheaf_of};
 ghost use Rattle.bmp_sheaf.specs.StalkFaults.{IsStalk, BreaksFirst};
-ghost use Rattle.bmp_sheaf.specs.StalkTables.{IsEdgeModule, IsStalkTable, map_place};
+ghost use Rattle.bmp_sheaf.specs.StalkTables.{IsStalkTable, map_place};
+ghost use Rattle.bmp_sheaf.specs.UpperTables.{IsEdgeModule, IsUpperTable};
 
 use crate::fault::SheafFault;
 use crate::label_tables::LabelTables;
 use crate::stalk::StalkPart;
+use crate::upper_maps::{UpperMap, UpperMaps};
 use bmp_field::Field;
 use bmp_graph::MomentGraph;
 use bmp_linear::{Rows, SparseRows, Vector};
@@ -32,6 +34,7 @@ pub struct Sheaf<F: Field> {
     field: F,
     degree: u32,
     tables: LabelTables,
+    uppers: UpperMaps<F>,
     stalks: Vec<StalkPart<F>>,
 }
 
@@ -46,7 +49,7 @@ impl<F: Field> Model for Sheaf<F> {
 
     ghost invariant = { λ s. IsKept (F.size s.field)
         (record { graph = s.graph; field = s.field; degree = s.degree; stalks = map stalk_in s.stalks.items })
-        s.tables s.stalks.items };
+        s.tables s.uppers.maps.items s.stalks.items };
 }
 
 impl<F: Field + Drop> Sheaf<F> {
@@ -69,6 +72,7 @@ impl<F: Field + Drop> Sheaf<F> {
             field: f,
             degree,
             tables,
+            uppers: UpperMaps::new(alloc),
             stalks,
         })
     }
@@ -89,7 +93,14 @@ impl<F: Field> Sheaf<F> {
     {
         let x = self.graph.vertices() - 1 - self.pushed();
         self.check(x, degrees, lifts)?;
-        let part = self.new_part(x, degrees, lifts)?;
+        let uppers = self.uppers.keep_up(
+            &self.field,
+            &self.graph,
+            self.degree,
+            &self.tables,
+            &self.stalks,
+        )?;
+        let part = self.new_part(x, degrees, lifts, uppers)?;
         self.stalks.push(part)?;
         Ok(())
     }
@@ -156,6 +167,19 @@ impl<F: Field> Sheaf<F> {
         &self.stalks[(self.graph.vertices() - 1 - x) as usize]
     }
 
+    /// What is kept of the map from the stalk at the upper end of an edge, with the edge's module.
+    fn upper(&self, e: u32) -> &UpperMap<F>
+        requires edge { e < edge_count self.now.graph }
+        requires there { IsThere self.now (lower self.now.graph e) }
+        ensures module { IsEdgeModule self.now e result.now.quotient }
+        ensures rows { IsUpperTable self.now.degree result.now }
+        ensures state { IsState self.now }
+    {
+        let x = self.graph.edge(e).lower;
+        let part = &self.stalks[(self.graph.vertices() - 1 - x) as usize];
+        &self.uppers.maps[part.uppers[self.up_place(e) as usize]]
+    }
+
     /// The place of an edge among those that go up from its lower end.
     fn up_place(&self, e: u32) -> u32
         requires { e < edge_count self.now.graph }
@@ -195,8 +219,7 @@ impl<F: Field> Sheaf<F> {
         ensures graded { ⟦<Quotient as GradedModule<F>>⟧.graded result.now ≡ edge_module self.now.graph (sheaf_of self.now) e }
         ensures dimension { (d : ℕ) → (⟦<Quotient as GradedModule<F>>⟧.graded result.now).dim d ≡ edge_module_count self.now.graph (sheaf_of self.now) d e }
     {
-        let part = self.part(self.graph.edge(e).lower);
-        &part.edges[self.up_place(e) as usize]
+        &self.upper(e).quotient
     }
 
     /// The lift on an edge of the generator `g`, counted from 0, of its lower end.
@@ -244,8 +267,7 @@ impl<F: Field> Sheaf<F> {
         ensures numbers { NumbersBelow self.now.graph.prime (matrix_of_entries result.now) }
         ensures state { IsState self.now }
     {
-        let part = self.part(self.graph.edge(e).lower);
-        &part.upper[self.map_place(e, d)]
+        &self.upper(e).rows[d as usize]
     }
 
     /// Coordinate `i` on an edge, in degree `d`, of the image of the element of its lower end that is 1 at coordinate `j`.

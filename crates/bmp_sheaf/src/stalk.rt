@@ -1,7 +1,7 @@
 //! One stalk of a sheaf in memory.
 use bmp_field::Field;
 use bmp_linear::{SparseRows, Vectors};
-use bmp_module::{Free, Quotient};
+use bmp_module::Free;
 use std::marker::Model;
 
 /// The stalk at a vertex, its lifts, and what is kept of the edges going up from it.
@@ -10,12 +10,10 @@ pub(crate) struct StalkPart<F: Field> {
     pub(crate) module: Free,
     /// By edge, and then by generator.
     pub(crate) lifts: Vectors,
-    /// By edge its module.
-    pub(crate) edges: Vec<Quotient>,
     /// By edge, and then by degree, the map from this stalk to the edge's module.
     pub(crate) lower: Vec<SparseRows<F>>,
-    /// By edge, and then by degree, the map from the stalk at the edge's upper end.
-    pub(crate) upper: Vec<SparseRows<F>>,
+    /// By edge, the number of what is kept of its module and of the map from its upper end.
+    pub(crate) uppers: Vec<usize>,
 }
 
 impl<F: Field> Model for StalkPart<F> {
@@ -28,8 +26,7 @@ impl<F: Field> Model for StalkPart<F> {
       rank = rank_of s.module;
       degrees = degrees_of s.module;
       lifts = s.lifts;
-      edges = s.edges.items;
       lower = s.lower.items;
-      upper = s.upper.items;
+      uppers = s.uppers.items;
     } };
 }

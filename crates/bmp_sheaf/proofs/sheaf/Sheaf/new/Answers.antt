@@ -9,7 +9,7 @@ invariant_of-result g c =
     let G = c.args.graph.now in
     let two : 2 ≤ G.prime = omega (arith, g.met.F.Field.laws.at_least_two c.args.f, c.requires.prime) in
     let over : IsOverField G = record { is_graph = c.vertices.ensures.graph; two = two; inverses = subst HasInverses c.requires.prime (g.met.F.Field.laws.inverse c.args.f) } in
-    rw (c.in_ok-copy.ensures, c.in_ok-stalks.ensures.items)
+    rw (c.in_ok-copy.ensures, c.in_ok-stalks.ensures.items, c.new-2.ensures)
     (kept_none (g.F.Field.size c.args.f) G c.args.f c.args.degree c.in_ok-tables.tables c.requires.prime
     (record {
       over = over;
