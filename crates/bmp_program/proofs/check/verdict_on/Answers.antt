@@ -5,8 +5,8 @@ use Rattle.bmp_program.specs.Runs.{answer_view}
 use Rattle.bmp_program.proofs.CheckAnswerLemmas.{passed_report, refused_report}
 use Rattle.bmp_program.proofs.check.verdict_on.Goals as goal
 
-pub check-requires-clause-formed : goal.check-requires-clause-formed
-check-requires-clause-formed g c = λ ks lives. c.requires.accepted.formed
+pub check_with-requires-clause-formed : goal.check_with-requires-clause-formed
+check_with-requires-clause-formed g c = λ ks lives. c.requires.accepted.formed
 
 pub returns-in_ok-lines-in-Ok : goal.returns-in_ok-lines-in-Ok
 returns-in_ok-lines-in-Ok g c =
