@@ -94,7 +94,11 @@ fn versions_agree(rt: HostRuntime) -> Result<(), Fail> {
         assert_eq!(rt; whole.degree(), levels.degree());
         for x in 0..whole.vertices() {
             for d in 0..whole.degree() + 1 {
-                assert_eq!(rt; whole.count(x, d), levels.count(x, d), "vertex {x} degree {d}");
+                assert_eq!(rt;
+                    whole.count(x, d),
+                    levels.count(x, d),
+                    "vertex {x} degree {d}"
+                );
             }
         }
     }

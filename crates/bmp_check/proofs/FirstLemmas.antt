@@ -105,4 +105,4 @@ pub first_of_pieces :
     IsFirstBlockRefusal (graph_in s) (method_at s) (cert_in s) kept.refusal
 first_of_pieces s workers kept some h =
     first_block s kept.block h.numbered (λ i before. h.earlier i before (of_all s workers i some)) kept.refusal
-        h.refused
+    h.refused

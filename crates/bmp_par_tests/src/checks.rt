@@ -70,10 +70,19 @@ fn check_square<G: Gate>(
 
 #[test]
 fn each_worker_passes_once(rt: HostRuntime) -> Result<(), Fail> {
-    for (workers, seen) in [("1", (1, 0)), ("2", (2, 1)), ("7", (7, 21)), ("32", (32, 496))] {
+    for (workers, seen) in [
+        ("1", (1, 0)),
+        ("2", (2, 1)),
+        ("7", (7, 21)),
+        ("32", (32, 496)),
+    ] {
         let gate = Counter::new();
         let ended = check_square(&rt, rt.alloc(), workers, &gate)?;
-        assert_eq!(rt; (ended, gate.seen()), (Status::Done, seen), "{workers} workers");
+        assert_eq!(rt;
+            (ended, gate.seen()),
+            (Status::Done, seen),
+            "{workers} workers"
+        );
     }
     Ok(())
 }

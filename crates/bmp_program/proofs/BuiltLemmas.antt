@@ -25,7 +25,7 @@ never_refused G c passes e refusal of_e by =
 -- the summary of its ranks is that of its own counts
 pub built_summary : (n : ℕ) (j : Job) (G : Graph) (c : Cert) (r : RankTable) → IsBuiltCert j G c →
     IsRanksOf (written_by c) r →
-        summary_text n j G (rank_in r) ≡ summary_text n c.job G (generator_count (written_by c))
+    summary_text n j G (rank_in r) ≡ summary_text n c.job G (generator_count (written_by c))
 built_summary n j G c r built ranks =
     ap (λ (k : Job). summary_text n k G (rank_in r)) (sym built.job)
     ∙ of_ranks n c G r (sym built.passes.count) ranks

@@ -11,12 +11,10 @@ use crate::Status;
 use crate::answer::{Answer, made};
 use crate::job_answer::fault_answer;
 use bmp_build::{build, level_version};
-use bmp_cert::{
-    Accepted, Cert, CertError, Job, JobError, Ranks, accept_job, print_cert, read_job,
-};
+use bmp_cert::{Accepted, Cert, CertError, Job, JobError, Ranks, accept_job, print_cert, read_job};
 use bmp_check::{CheckError, check_with};
-use bmp_report::{ranks_text, sample_job, summary_text, text_line};
 use bmp_par::Gate;
+use bmp_report::{ranks_text, sample_job, summary_text, text_line};
 use std::alloc::{AllocError, Global};
 use std::thread::Threads;
 

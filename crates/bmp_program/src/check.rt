@@ -11,8 +11,8 @@ use crate::answer::{Answer, made};
 use crate::job_answer::fault_answer;
 use bmp_cert::{Accepted, Cert, CertError, JobError, accept_job, read_cert};
 use bmp_check::{CheckError, check_with, refusal_line};
-use bmp_report::{ranks_text, text_line};
 use bmp_par::Gate;
+use bmp_report::{ranks_text, text_line};
 use std::alloc::{AllocError, Global};
 use std::thread::Threads;
 

@@ -16,8 +16,8 @@ use crate::table_answer::TABLE_LIMIT;
 use bmp_cert::{Accepted, CertError, Job, JobError, accept_job, read_job};
 use bmp_interval::Interval;
 use bmp_kl::{KlError, KlTable, kl_table};
-use bmp_report::{compare_text, limit_line, text_line};
 use bmp_par::Gate;
+use bmp_report::{compare_text, limit_line, text_line};
 use std::alloc::{AllocError, Global};
 use std::thread::Threads;
 

@@ -13,8 +13,8 @@ use crate::compare_answer::report_compare;
 use crate::job_answer::{report_gkm, report_graph};
 use crate::table_answer::report_kl;
 use crate::words::{CommandWord, Request};
-use bmp_ports::{READ_LIMIT, ReadError, Source, read_all};
 use bmp_par::Gate;
+use bmp_ports::{READ_LIMIT, ReadError, Source, read_all};
 use std::alloc::{AllocError, Global};
 use std::thread::Threads;
 
@@ -71,7 +71,12 @@ pub(crate) fn answer_to<S: Source, G: Gate>(
 
 /// The answer of `sample`, for the job of the number that the request names.
 #[tactic(auto, using(crate::proofs::ReportLemmas::sample_answered))]
-pub(crate) fn answer_sample<G: Gate>(rt: &(impl Threads + Sync), alloc: Global, request: Request, gate: &G) -> Answer
+pub(crate) fn answer_sample<G: Gate>(
+    rt: &(impl Threads + Sync),
+    alloc: Global,
+    request: Request,
+    gate: &G,
+) -> Answer
     requires { (1 ≤ request.workers) × (request.workers ≤ 32) }
     ensures { IsDecided (λ input. SampleReport request.seed) None ⊥ (answer_view result) }
 {

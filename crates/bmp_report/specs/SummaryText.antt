@@ -31,4 +31,4 @@ summary_text n j g count = sizes_text n j g ++ counts_line (vertex_count g) j.de
 abbrev pub SummaryOfRanks : Type 0
 SummaryOfRanks = (n : ℕ) (c : Cert) (g : Graph) (r : RankTable) → vertex_count g ≡ length c.vertices →
     IsRanksOf (written_by c) r → summary_text n c.job g (rank_in r) ≡ summary_text n c.job g
-        (generator_count (written_by c))
+    (generator_count (written_by c))

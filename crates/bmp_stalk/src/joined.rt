@@ -189,15 +189,6 @@ pub fn joined_boundary<F: Field, T: Sections, A: RowSpace<F>>(
     let mut joined = vec![in alloc; 0; cols]?;
     let mut values = vec![in alloc; 0; count]?;
     let _ = sheaf.graph();
-    push_edges(
-        alloc,
-        sheaf,
-        x,
-        d,
-        tuples,
-        &mut o,
-        &mut joined,
-        &mut values,
-    )?;
+    push_edges(alloc, sheaf, x, d, tuples, &mut o, &mut joined, &mut values)?;
     Ok(o)
 }

@@ -40,7 +40,7 @@ pub slice_bounds-agree_at-end-2 : goal.slice_bounds-agree_at-end-2
 slice_bounds-agree_at-end-2 c =
     let is = read_block c.args.x c.args.d c.given.ensures c.part_of.ensures c.block_of-block.ensures in
     let enough = members_room c.requires.whole c.requires.method c.args.x c.args.d c.requires.block is
-        c.len-count.ensures
+    c.len-count.ensures
     c.requires.sums in
     sym (length-take-le c.len-count.result c.args.sums.now enough)
 
@@ -48,7 +48,7 @@ pub agree_at-known-requires-clause-sums : goal.agree_at-known-requires-clause-su
 agree_at-known-requires-clause-sums c =
     let is = read_block c.args.x c.args.d c.given.ensures c.part_of.ensures c.block_of-block.ensures in
     let enough = members_room c.requires.whole c.requires.method c.args.x c.args.d c.requires.block is
-        c.len-count.ensures
+    c.len-count.ensures
     c.requires.sums in
     length-take-le c.len-count.result c.args.sums.now enough ∙ sym c.members-members.ensures.count
 

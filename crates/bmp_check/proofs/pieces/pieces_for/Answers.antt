@@ -12,10 +12,14 @@ pieces-preserved c =
     let items = c.in_ok-push.ensures.items in
     let piece : Piece = record { scratch = c.in_ok-scratch.scratch; kept = None } in
     record {
-      count = omega (arith, ap length items, length-append c.pieces.pieces.items (piece ∷ []),
-          c.pieces.invariant.count);
+      count = omega (
+        arith,
+        ap length items,
+        length-append c.pieces.pieces.items (piece ∷ []),
+        c.pieces.invariant.count,
+      );
       room = subst (HaveRoom s) (sym items)
           (All-push (λ (p : Piece). IsRoomFor (graph_in s) (method_at s) (cert_in s) p.scratch) c.pieces.pieces.items
-              piece
+          piece
           c.pieces.invariant.room c.in_ok-scratch.ensures);
     }

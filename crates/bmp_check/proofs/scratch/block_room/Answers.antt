@@ -53,7 +53,7 @@ returns-clause-rows c =
     let bound : D ≡ cert.degree = ap (λ (g : Given). g.degree) c.given-given.ensures in
     λ x d block.
     (blocks_all G cert (IsWithin G m cert c.each.rows c.each.most c.each.sections) n D c.each.i vertices bound
-        c.each.invariant
+    c.each.invariant
     (omega (arith, c.each-test.false, c.block_count-i-end.ensures.count)) x d block).0
 
 pub returns-clause-sizes : goal.returns-clause-sizes
@@ -68,7 +68,7 @@ returns-clause-sizes c =
     let bound : D ≡ cert.degree = ap (λ (g : Given). g.degree) c.given-given.ensures in
     λ x d block.
     (blocks_all G cert (IsWithin G m cert c.each.rows c.each.most c.each.sections) n D c.each.i vertices bound
-        c.each.invariant
+    c.each.invariant
     (omega (arith, c.each-test.false, c.block_count-i-end.ensures.count)) x d block).1
 
 pub returns-clause-sections : goal.returns-clause-sections
@@ -83,5 +83,5 @@ returns-clause-sections c =
     let bound : D ≡ cert.degree = ap (λ (g : Given). g.degree) c.given-given.ensures in
     λ x d block.
     (blocks_all G cert (IsWithin G m cert c.each.rows c.each.most c.each.sections) n D c.each.i vertices bound
-        c.each.invariant
+    c.each.invariant
     (omega (arith, c.each-test.false, c.block_count-i-end.ensures.count)) x d block).2

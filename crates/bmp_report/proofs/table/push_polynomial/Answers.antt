@@ -13,7 +13,7 @@ exponents-preserved c =
     let is : c.coefficient-coefficient.result ≡ coefficient_of c.args.table.now c.args.x (pos c.exponents.e) =
     c.coefficient-coefficient.ensures
     ∙ ap (λ (e : ℤ). coefficient_of c.args.table.now c.args.x e) (to_z-of_z w32 c.signed.result fits
-        ∙ c.signed.ensures) in
+    ∙ c.signed.ensures) in
     let printed : c.push_coefficient.new.out.items ≡ c.exponents.out.items ++ spaced_words
     (coefficient_words c.exponents.e (coefficient_of c.args.table.now c.args.x (pos c.exponents.e))) =
     c.in_ok-push_coefficient.ensures
@@ -21,11 +21,11 @@ exponents-preserved c =
     (to_z-of_z w64 c.coefficient-coefficient.result fits_again ∙ is) in
     rw printed
     (range_lists_on (λ e. coefficient_words e (coefficient_of c.args.table.now c.args.x (pos e))) c.exponents.out.items
-        _
+    _
     c.exponents.e (37 - c.exponents.e) (37 - (c.exponents.e + 1)) (omega arith) c.exponents.invariant)
 
 pub returns : goal.returns
 returns c =
     range_lists_end (λ e. coefficient_words e (coefficient_of c.args.table.now c.args.x (pos e))) c.exponents.out.items
-        _
+    _
     c.exponents.e (37 - c.exponents.e) (omega (arith, c.exponents-test.false)) c.exponents.invariant
