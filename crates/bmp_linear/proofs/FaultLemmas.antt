@@ -1,5 +1,5 @@
 -- The first comparison that fails, found in a loop.
-use Rattle.std.proofs.Common.{◌≡◌, ◌≢◌, ℕ, ◌+◌, ◌<◌, inl, inr, sym, ◌∙◌, arith, Result, Ok, Err, OnOk}
+use Rattle.std.proofs.Common.{◌≡◌, ◌≢◌, ℕ, ◌+◌, ◌<◌, inl, inr, sym, ◌∙◌, arith, Result, Ok, Err, OnOk, OnErr}
 use Rattle.std.proofs.lemmas.Bool.{cases_eq}
 use Rattle.bmp_linear.specs.declared.fault.RowFault.{RowFault}
 use Rattle.bmp_linear.specs.Faults.{IsFirstFailure, WithIndex}
@@ -8,6 +8,11 @@ use Rattle.bmp_linear.specs.Faults.{IsFirstFailure, WithIndex}
 pub on_ok : {E : Type 0} (r : Result (Unit {0}) E) (P Q : Type 0) → (P → Q) → OnOk r P → OnOk r Q
 on_ok (Ok u) P Q f h = f h
 on_ok (Err e) P Q f h = h
+
+-- what follows from what an `Err` says
+pub on_err : {E : Type 0} (r : Result (Unit {0}) E) (P Q : Type 0) → (P → Q) → OnErr r P → OnErr r Q
+on_err (Ok u) P Q f h = h
+on_err (Err e) P Q f h = f h
 
 -- the two sides agree at each of n places
 abbrev pub AllAgree : ℕ → (ℕ → ℕ) → (ℕ → ℕ) → Type 0

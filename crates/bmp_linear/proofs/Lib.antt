@@ -9,6 +9,8 @@ pub mod RowTableLemmas
 pub mod RunRowLemmas
 pub mod MultipleLemmas
 pub mod SparseRowLemmas
+pub mod KeptRowLemmas
+pub mod NumberRowLemmas
 pub mod SparseRowChangeLemmas
 pub mod ShapeLemmas
 pub mod FaultLemmas

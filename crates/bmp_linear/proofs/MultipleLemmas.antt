@@ -81,7 +81,7 @@ module _ (n p : ℕ) (old mid : Matrix) (from : ℕ) (c : ℕ → ℕ) (h : AreM
         | inr late ↦ rw (h.others i j (omega arith) row column) (numbers i j row column)
       ]
 
-reduced_term : (p a b : ℕ) → (a + b % p) % p ≡ (a + b) % p
+pub reduced_term : (p a b : ℕ) → (a + b % p) % p ≡ (a + b) % p
 reduced_term p a b = same_add p a a (b % p) b refl (mod-mod b p)
 
 -- the multiple before that by c, and the list once more, are the multiple by c

@@ -1,5 +1,7 @@
 pub mod SparseVectors
 pub mod RowTables
+pub mod NumberRows
+pub mod KeptRows
 pub mod RowVectors
 pub mod RowChanges
 pub mod Runs

@@ -1,8 +1,9 @@
 //! Runs of entries, the numbers of a vector that aren't 0, against other numbers.
-ghost use Rattle.std.specs.Prelude.{◌≡◌, ℕ, ◌*◌, ◌%◌, ◌<◌, ◌≤◌, length, take, slice_index, slice_index_or, All, sum_by};
+ghost use Rattle.std.specs.Prelude.{◌≡◌, ℕ, ◌*◌, ◌%◌, ◌<◌, ◌≤◌, length, take, slice_index, slice_index_or, All, EachIndex, sum_by};
 ghost use Rattle.bmp_linear.specs.SparseVectors.{IsRising, IsSparse, FitsBelow, ValuesBelow, number_at};
 ghost use Rattle.bmp_linear.specs.RowChanges.{AddsEntries};
 
+use crate::scratch::clear;
 use crate::vector::Entry;
 use bmp_field::Field;
 
@@ -16,6 +17,18 @@ pub(crate) fn number_in(entries: &[Entry], place: u32) -> u8
         }
     }
     0
+}
+
+/// Writes all the numbers of entries, 0s too.
+pub(crate) fn spread_entries(entries: &[Entry], into: &mut [u8])
+    requires sparse { IsSparse entries.now }
+    requires fits { FitsBelow entries.now (length into.old) }
+    ensures { EachIndex into.new (λ j. slice_index into.new j ≡ number_at entries.now j) }
+{
+    clear(into);
+    for entry in entries {
+        into[entry.place as usize] = entry.value;
+    }
 }
 
 /// The first entry from `next` on whose place is `place` or more.

@@ -1,5 +1,5 @@
 //! Entries whose values are multiplied, and sums of two runs of entries.
-ghost use Rattle.std.specs.Prelude.{◌≡◌, ℕ, ◌⊎◌, ◌<◌, ◌≤◌, ◌^◌, length, slice_index, map, IfOk};
+ghost use Rattle.std.specs.Prelude.{◌≡◌, ℕ, ◌⊎◌, ◌<◌, ◌≤◌, ◌^◌, length, slice_index, map, OnOk, IfOk};
 ghost use Rattle.bmp_linear.specs.SparseVectors.{IsSparse, FitsBelow, ValuesBelow, number_at};
 ghost use Rattle.bmp_linear.specs.EntryChanges.{times_entry, after, IsNextEntry, IsEntrySum};
 
@@ -100,22 +100,24 @@ fn left_after(entries: &[Entry], place: u32) -> &[Entry]
     }
 }
 
-/// The entries of the sum of the first numbers and `c` times the second ones, in one pass over both.
+/// Makes `sum` the entries of the sum of the first numbers and `c` times the second ones, in one pass over both
+/// and in the room that there is. Where memory is wanting it may have any entries.
 pub(crate) fn sum_of_entries<F: Field>(
-    alloc: Global,
     f: &F,
     c: F::E,
     first: &[Entry],
     second: &[Entry],
-) -> Result<SmallVec<Entry, INLINE>, AllocError>
+    sum: &mut SmallVec<Entry, INLINE>,
+) -> Result<(), AllocError>
     requires factor { F.is_value f.now c }
     requires first { IsSparse first.now }
     requires second { IsSparse second.now }
     requires first_values { ValuesBelow first.now (F.size f.now) }
     requires second_values { ValuesBelow second.now (F.size f.now) }
-    ensures { IfOk result (λ sum. IsEntrySum (F.size f.now) (F.num f.now c) first.now second.now sum.items) }
+    ensures { OnOk result (IsEntrySum (F.size f.now) (F.num f.now c) first.now second.now sum.new.items) }
 {
-    let mut sum = SmallVec::with_capacity(alloc, first.len() + second.len())?;
+    sum.clear();
+    sum.reserve(first.len() + second.len())?;
     let mut first_left = first;
     let mut second_left = second;
     while !first_left.is_empty() || !second_left.is_empty() {
@@ -126,5 +128,5 @@ pub(crate) fn sum_of_entries<F: Field>(
         first_left = left_after(first_left, next.place);
         second_left = left_after(second_left, next.place);
     }
-    Ok(sum)
+    Ok(())
 }

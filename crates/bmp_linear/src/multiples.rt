@@ -25,7 +25,7 @@ pub(crate) struct RowRun {
 }
 
 /// How many numbers are 0 before the first that isn't.
-fn zeros_before(numbers: &[u8]) -> usize
+pub(crate) fn zeros_before(numbers: &[u8]) -> usize
     ensures within { result ≤ length numbers.now }
     ensures zero { (j : ℕ) → j < result → slice_index numbers.now j ≡ 0 }
 {
@@ -122,6 +122,22 @@ fn write_multiples<F: Field>(f: &F, run: &[u8], table: &mut [u8])
     }
 }
 
+/// The multiples of numbers by each number of the field, one after the other.
+pub(crate) fn table_of<F: Field>(
+    alloc: Global,
+    f: &F,
+    numbers: &[u8],
+) -> Result<Vec<u8>, AllocError>
+    requires numbers { AreBelow (F.size f.now) numbers.now }
+    requires limit { length numbers.now < 2 ^ 32 }
+    ensures sized { IfOk result (λ table. length table.items ≡ F.size f.now * length numbers.now) }
+    ensures multiples { IfOk result (λ table. AreMultiples (F.size f.now) (F.size f.now) numbers.now table.items) }
+{
+    let mut table = vec![in alloc; 0; f.size() as usize * numbers.len()]?;
+    write_multiples(f, numbers, &mut table);
+    Ok(table)
+}
+
 /// The multiples of a run by each number of the field, one after the other.
 fn multiples_of<F: Field>(
     alloc: Global,
@@ -133,9 +149,8 @@ fn multiples_of<F: Field>(
     requires limit { run.cols < 2 ^ 32 }
     ensures { IfOk result (λ table. HasMultiples (F.size f.now) run numbers.now table.items) }
 {
-    let mut table = vec![in alloc; 0; f.size() as usize * run.len]?;
     let place = run.row * run.cols + run.start;
-    write_multiples(f, &numbers[place..place + run.len], &mut table);
+    let table = table_of(alloc, f, &numbers[place..place + run.len])?;
     Ok(table)
 }
 

@@ -12,12 +12,15 @@ use bmp_field::Field;
 use smallvec::SmallVec;
 use std::alloc::{AllocError, Global};
 use std::marker::{Model, PhantomData};
+use std::mem;
 
-/// Rows of a fixed number of columns, each kept as its entries.
+/// Rows of a fixed number of columns, each kept as its entries. A sum is made in spare entries, which are then
+/// exchanged with the row's.
 #[derive(Drop)]
 pub struct SparseRows<F: Field> {
     cols: u32,
     rows: Vec<SmallVec<Entry, INLINE>>,
+    spare: SmallVec<Entry, INLINE>,
     of: PhantomData<F>,
 }
 
@@ -44,6 +47,7 @@ impl<F: Field> SparseRows<F> {
         SparseRows {
             cols,
             rows: Vec::new(alloc),
+            spare: SmallVec::new(alloc),
             of: PhantomData,
         }
     }
@@ -128,11 +132,10 @@ impl<F: Field> RowSpace<F> for SparseRows<F> {
     }
 
     fn add_row(&mut self, f: &F, into: u32, from: u32, c: F::E) -> Result<(), AllocError> {
-        let alloc = *self.rows.allocator();
         let first = self.rows[into as usize].as_slice();
         let second = self.rows[from as usize].as_slice();
-        let sum = sum_of_entries(alloc, f, c, first, second)?;
-        self.rows[into as usize] = sum;
+        sum_of_entries(f, c, first, second, &mut self.spare)?;
+        mem::swap(&mut self.rows[into as usize], &mut self.spare);
         Ok(())
     }
 
@@ -158,6 +161,7 @@ impl<F: Field> RowSpace<F> for SparseRows<F> {
         Ok(SparseRows {
             cols: self.cols,
             rows,
+            spare: SmallVec::new(alloc),
             of: PhantomData,
         })
     }

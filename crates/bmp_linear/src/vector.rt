@@ -2,7 +2,7 @@
 ghost use Rattle.std.specs.Prelude.{◌≡◌, ◌≢◌, ◌<◌, ◌≤◌, ◌^◌, ◌↔◌, IsTrue, ℕ, All, [], ◌∷◌, ◌++◌, length, slice_get, slice_index, Some, EachIndex, OnOk, OnErr, IfOk};
 ghost use Rattle.bmp_linear.specs.SparseVectors.{IsSparse, FitsBelow, ValuesBelow, number_at};
 
-use crate::scratch::clear;
+use crate::entries::spread_entries;
 use std::alloc::{AllocError, Global};
 use std::marker::Model;
 
@@ -184,9 +184,6 @@ impl Vector {
         requires { FitsBelow self.now (length into.old) }
         ensures { EachIndex into.new (λ j. slice_index into.new j ≡ number_at self.now j) }
     {
-        clear(into);
-        for entry in self.entries() {
-            into[entry.place as usize] = entry.value;
-        }
+        spread_entries(self.entries(), into);
     }
 }

@@ -18,8 +18,8 @@ sum_of_entries-requires-clause-second_values g c =
     c.self.invariant.3 c.requires.from c.index-2.ensures c.as_slice-second.ensures c.requires.numbers in
     row.values
 
-pub invariant_of-self : goal.invariant_of-self
-invariant_of-self g c =
+pub invariant_of-self-2 : goal.invariant_of-self-2
+invariant_of-self-2 g c =
     let p = g.F.Field.size c.args.f.now in
     let first = sparse_row p c.args.self.now c.self.inside.cols c.self.inside.rows.items c.args.into c.index.result.now
     c.as_slice-first.result.now c.self.view_is c.self.invariant.2 c.self.invariant.3 c.requires.into c.index.ensures
@@ -27,10 +27,10 @@ invariant_of-self g c =
     let second = sparse_row p c.args.self.now c.self.inside.cols c.self.inside.rows.items c.args.from
     c.index-2.result.now c.as_slice-second.result.now c.self.view_is c.self.invariant.2 c.self.invariant.3
     c.requires.from c.index-2.ensures c.as_slice-second.ensures c.requires.numbers in
-    sum_sparse c.args.self.now c.self.inside.cols c.self.inside.rows.items c.self.view_is c.args.into c.in_ok-sum.sum
+    sum_sparse c.args.self.now c.self.inside.cols c.self.inside.rows.items c.self.view_is c.args.into c.swap.new.x
     c.requires.into p (g.F.Field.num c.args.f.now c.args.c) c.args.from c.as_slice-first.result.now
     c.as_slice-second.result.now
-    first second c.in_ok-sum.ensures c.self.invariant
+    first second (rw c.swap.ensures.x_after c.in_ok-sum_of_entries.ensures) c.self.invariant
 
 pub returns-clause-ok : goal.returns-clause-ok
 returns-clause-ok g c =
@@ -41,10 +41,10 @@ returns-clause-ok g c =
     let second = sparse_row p c.args.self.now c.self.inside.cols c.self.inside.rows.items c.args.from
     c.index-2.result.now c.as_slice-second.result.now c.self.view_is c.self.invariant.2 c.self.invariant.3
     c.requires.from c.index-2.ensures c.as_slice-second.ensures c.requires.numbers in
-    row_sum c.args.self.now c.self.inside.cols c.self.inside.rows.items c.self.view_is c.args.into c.in_ok-sum.sum
+    row_sum c.args.self.now c.self.inside.cols c.self.inside.rows.items c.self.view_is c.args.into c.swap.new.x
     c.requires.into p (g.F.Field.num c.args.f.now c.args.c) c.args.from c.as_slice-first.result.now
     c.as_slice-second.result.now
-    first second c.in_ok-sum.ensures
+    first second (rw c.swap.ensures.x_after c.in_ok-sum_of_entries.ensures)
 
 pub returns-clause-numbers : goal.returns-clause-numbers
 returns-clause-numbers g c =
