@@ -10,7 +10,7 @@ use Rattle.bmp_poly.specs.Exponents.{count, exponents}
 use Rattle.bmp_graded.specs.Graded.{Graded}
 use Rattle.bmp_graded.specs.Modules.{polynomials, moved}
 use Rattle.bmp_graded.specs.Maps.{blockwise, multiples, extension}
-use Rattle.bmp_graded.proofs.Totals.{total}
+use Rattle.bmp_graded.proofs.Totals.{none_times, one_times, total}
 use Rattle.bmp_graded.proofs.CopiesLemmas.{block_dim, moved_dim, polynomials_dim}
 use Rattle.bmp_graded.proofs.ComponentLemmas.{start_of}
 
@@ -26,7 +26,6 @@ blockwise_at n m f (g ∷ gs) u zero j inside below =
     ∙ ap (λ w. f g w j) whole
 blockwise_at n m f (g ∷ gs) u (suc h) j inside below =
     let rest : suc h < suc (length gs) = inside in
-    let k : ℕ = (m g + total m (take h gs)) + j in
     let past : m g ≤ (m g + total m (take h gs)) + j = omega arith in
     let back : ((m g + total m (take h gs)) + j) - m g ≡ total m (take h gs) + j = omega arith in
     let onward : (λ i. u (n g + (total n (take h gs) + i))) ≡ (λ i. u ((n g + total n (take h gs)) + i)) = fun_ext (λ i. let at : n g + (total n (take h gs) + i) ≡ (n g + total n (take h gs)) + i = omega arith in ap u at) in
@@ -50,12 +49,9 @@ module _ (r : ℕ) (M : Graded) (d : ℕ) where
     | inr from ↦
         let size : (moved g (polynomials r)).dim d ≡ count r (d - g) = moved_dim (polynomials r) g d from ∙ polynomials_dim r (d - g) in
         cond-true {A = ℕ} (leb g d) (sum_below (λ i. u i * M.act (exponents 6 r (d - g) i) g d w j) (count r (d - g))) 0 (le-leb g d from)
-        ∙ sum_below_same (λ i. u i * M.act (exponents 6 r (d - g) i) g d w j) (λ i. 0) (count r (d - g)) (λ i b. ap (λ z. z * M.act (exponents 6 r (d - g) i) g d w j) (none i (omega (arith, size, b))) ∙ nothing (M.act (exponents 6 r (d - g) i) g d w j))
+        ∙ sum_below_same (λ i. u i * M.act (exponents 6 r (d - g) i) g d w j) (λ i. 0) (count r (d - g)) (λ i b. ap (λ z. z * M.act (exponents 6 r (d - g) i) g d w j) (none i (omega (arith, size, b))) ∙ none_times (M.act (exponents 6 r (d - g) i) g d w j))
         ∙ sum_below-zeros (count r (d - g))
   ]
-    where
-      nothing : (x : ℕ) → 0 * x ≡ 0
-      nothing x = omega arith
 
   extension_none : (gs : List ℕ) (ws : ℕ → ℕ → ℕ) (u : ℕ → ℕ) (j : ℕ) → ((i : ℕ) → u i ≡ 0) → extension r M gs ws d u j ≡ 0
   unfolding extension
@@ -66,16 +62,9 @@ module _ (r : ℕ) (M : Graded) (d : ℕ) where
   multiples_unit : (g k : ℕ) (w : ℕ → ℕ) (j : ℕ) → g ≤ d → k < count r (d - g) → multiples r M g w d (unit k) j ≡ M.act (exponents 6 r (d - g) k) g d w j
   unfolding multiples
   multiples_unit g k w j from below =
-      let f : ℕ → ℕ = λ i. unit k i * M.act (exponents 6 r (d - g) i) g d w j in
       cond-true {A = ℕ} (leb g d) (sum_below (λ i. unit k i * M.act (exponents 6 r (d - g) i) g d w j) (count r (d - g))) 0 (le-leb g d from)
-      ∙ sum_below_only (λ i. unit k i * M.act (exponents 6 r (d - g) i) g d w j) (count r (d - g)) k below (λ i b other. ap (λ z. z * M.act (exponents 6 r (d - g) i) g d w j) (unit_other k i (λ e. other (sym e))) ∙ nothing (M.act (exponents 6 r (d - g) i) g d w j))
-      ∙ ap (λ z. z * M.act (exponents 6 r (d - g) k) g d w j) (unit_same k) ∙ once (M.act (exponents 6 r (d - g) k) g d w j)
-    where
-      nothing : (x : ℕ) → 0 * x ≡ 0
-      nothing x = omega arith
-
-      once : (x : ℕ) → 1 * x ≡ x
-      once x = omega arith
+      ∙ sum_below_only (λ i. unit k i * M.act (exponents 6 r (d - g) i) g d w j) (count r (d - g)) k below (λ i b other. ap (λ z. z * M.act (exponents 6 r (d - g) i) g d w j) (unit_other k i (λ e. other (sym e))) ∙ none_times (M.act (exponents 6 r (d - g) i) g d w j))
+      ∙ ap (λ z. z * M.act (exponents 6 r (d - g) k) g d w j) (unit_same k) ∙ one_times (M.act (exponents 6 r (d - g) k) g d w j)
 
   -- the element that is 1 at the monomial number k of the h-th generator is sent to this monomial times the image
   pub extension_unit : (gs : List ℕ) (ws : ℕ → ℕ → ℕ) (h k j : ℕ) → h < length gs → get_or gs h 0 ≤ d → k < count r (d - get_or gs h 0) → extension r M gs ws d (unit (start_of r gs d h + k)) j ≡ M.act (exponents 6 r (d - get_or gs h 0) k) (get_or gs h 0) d (ws h) j
@@ -94,8 +83,6 @@ module _ (r : ℕ) (M : Graded) (d : ℕ) where
       plain x = omega arith
   extension_unit (g ∷ gs) ws (suc h) k j inside from below =
       let here : suc h < suc (length gs) = inside in
-      let n : ℕ = (moved g (polynomials r)).dim d in
-      let t : ℕ = total (block_dim (polynomials r) d) (take h gs) + k in
       let at : ((moved g (polynomials r)).dim d + total (block_dim (polynomials r) d) (take h gs)) + k ≡ (moved g (polynomials r)).dim d + (total (block_dim (polynomials r) d) (take h gs) + k) = omega arith in
       let first : multiples r M g (ws 0) d (unit ((moved g (polynomials r)).dim d + (total (block_dim (polynomials r) d) (take h gs) + k))) j ≡ 0 =
       multiples_none g (ws 0) (unit ((moved g (polynomials r)).dim d + (total (block_dim (polynomials r) d) (take h gs) + k))) j (λ i b. unit_other ((moved g (polynomials r)).dim d + (total (block_dim (polynomials r) d) (take h gs) + k)) i (λ e. absurd (omega (arith, b, e)))) in

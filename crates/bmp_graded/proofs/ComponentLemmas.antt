@@ -30,9 +30,7 @@ count_none (suc r) = let same : 0 + count r 0 ≡ count r 0 = omega arith in sam
 -- the element that is 1 where the block of g begins, in the degree of g, and 0 elsewhere
 pub generator_is : (r g : ℕ) (gs : List ℕ) (v : ℕ → ℕ) → r ≤ 6 → g < length gs → v (start_of r gs (get_or gs g 0) g) ≡ 1 → ((i : ℕ) → (i ≡ start_of r gs (get_or gs g 0) g → ⊥) → v i ≡ 0) → (h : ℕ) (m : List ℕ) → h < length gs → get_or gs h 0 ≤ get_or gs g 0 → IsMonomial 6 r (get_or gs g 0 - get_or gs h 0) m → component r gs h (get_or gs g 0) v m ≡ (if h == g then 1 else 0)
 generator_is r g gs v wide inside one others h m here le is =
-    let d = get_or gs g 0 in
     let n = block_dim (polynomials r) (get_or gs g 0) in
-    let start = start_of r gs (get_or gs g 0) g in
     let block : (moved (get_or gs h 0) (polynomials r)).dim (get_or gs g 0) ≡ count r (get_or gs g 0 - get_or gs h 0) = moved_dim (polynomials r) (get_or gs h 0) (get_or gs g 0) le ∙ polynomials_dim r (get_or gs g 0 - get_or gs h 0) in
     let below : place r m < count r (get_or gs g 0 - get_or gs h 0) = place_below 6 r (get_or gs g 0 - get_or gs h 0) m wide is in
     component_at r (get_or gs g 0) h gs v m here

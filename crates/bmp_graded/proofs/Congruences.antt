@@ -6,10 +6,9 @@ use Rattle.bmp_poly.specs.Exponents.{count, place, exponents}
 use Rattle.bmp_poly.specs.Forms.{IsLabel}
 use Rattle.bmp_math.specs.Vectors.{SameVector}
 use Rattle.bmp_graded.specs.Modules.{polynomials, moved, nothing, both, copies}
-use Rattle.bmp_graded.specs.Quotients.{insert, reduced}
+use Rattle.bmp_graded.specs.Quotients.{insert, reduced, quotient}
 use Rattle.bmp_graded.proofs.ReducedLaws.{projected_congruent, congruent_projected}
 use Rattle.bmp_graded.specs.NormalForms.{inverse_below, normal_by}
-use Rattle.bmp_graded.specs.Quotients.{quotient}
 use Rattle.bmp_graded.proofs.PassLaws.{normal_by_is, label_cases}
 use Rattle.bmp_graded.specs.Maps.{blockwise, projection}
 use Rattle.bmp_graded.specs.Components.{component, IsSameModulo}

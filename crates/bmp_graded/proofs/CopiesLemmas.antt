@@ -1,5 +1,5 @@
 -- Copies of a module, one after another.
-use Rattle.std.proofs.Common.{◌≡◌, ℕ, ◌+◌, ◌*◌, ◌-◌, ◌^◌, ◌<◌, ◌≤◌, cond, leb, ltb, List, [], ◌∷◌, length, refl, ap, inl, inr, arith}
+use Rattle.std.proofs.Common.{◌≡◌, ℕ, ◌+◌, ◌*◌, ◌-◌, ◌^◌, ◌<◌, ◌≤◌, cond, leb, ltb, List, [], ◌∷◌, length, refl, ap, ap₂, inl, inr, arith}
 use Rattle.std.proofs.lemmas.Bool.{cases_lt, cond-true, cond-false, lt-leb, le-leb}
 use Rattle.bmp_poly.specs.Exponents.{count}
 use Rattle.bmp_poly.proofs.Scanning.{count_small}
@@ -61,12 +61,15 @@ pub moved_act_from : (X : Graded) (g d t i : ℕ) (m : List ℕ) (v : ℕ → �
 unfolding moved
 moved_act_from X g d t i m v from = cond-true {A = ℕ} (leb g d) (X.act m (d - g) (t - g) v i) 0 (le-leb g d from)
 
-reduced_block_small : (r l d g : ℕ) (normal : ℕ → Form → Form) → r ≤ 6 → d ≤ 6 → (moved g (reduced r l normal)).dim d ≤ 462
-unfolding reduced
-reduced_block_small r l d g normal wide small = elim (cases_lt d g) [
-  | inl before ↦ omega (arith, moved_none (reduced r l normal) g d before)
-  | inr from ↦ omega (arith, moved_dim (reduced r l normal) g d from, count_small r (d - g) wide (omega arith))
-]
+-- modulo a linear form there are the coordinates of one variable fewer
+pub reduced_block : (r l g d : ℕ) (normal : ℕ → Form → Form) → (moved g (polynomials r)).dim d ≡ (moved g (reduced r l normal)).dim d
+unfolding moved polynomials reduced
+reduced_block r l g d normal = refl
+
+pub quotient_dim : (r l d : ℕ) (normal : ℕ → Form → Form) (gs : List ℕ) → (free r gs).dim d ≡ (copies (reduced r l normal) gs).dim d
+unfolding copies both nothing
+quotient_dim r l d normal [] = refl
+quotient_dim r l d normal (g ∷ gs) = ap₂ (λ a b. a + b) (reduced_block r l g d normal) (quotient_dim r l d normal gs)
 
 pub quotient_small : (r l d : ℕ) (normal : ℕ → Form → Form) (gs : List ℕ) → r ≤ 6 → d ≤ 6 → length gs < 2 ^ 32 → (copies (reduced r l normal) gs).dim d < 2 ^ 64
-quotient_small r l d normal gs wide small few = omega (arith, copies_dim (reduced r l normal) d gs, total_small (block_dim (reduced r l normal) d) 462 gs (λ g. reduced_block_small r l d g normal wide small))
+quotient_small r l d normal gs wide small few = omega (arith, quotient_dim r l d normal gs, free_small r d gs wide small few)

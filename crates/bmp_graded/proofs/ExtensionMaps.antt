@@ -6,11 +6,10 @@ use Rattle.bmp_math.specs.Matrices.{Matrix, image}
 use Rattle.bmp_math.proofs.MatrixLemmas.{image_is_linear}
 use Rattle.bmp_poly.specs.Exponents.{IsMonomial, count, exponents}
 use Rattle.bmp_math.specs.Vectors.{SameVector, IsLinear}
-use Rattle.bmp_graded.specs.Graded.{Graded, IsModule}
+use Rattle.bmp_graded.specs.Graded.{Graded, IsModule, IsModuleMap}
 use Rattle.bmp_graded.specs.Modules.{polynomials, moved, copies, free}
 use Rattle.bmp_graded.proofs.GradedLemmas.{linear_zero, cond_linear, narrower_module}
 use Rattle.bmp_graded.proofs.ExtensionLaws.{multiple_acts}
-use Rattle.bmp_graded.specs.Graded.{IsModuleMap}
 use Rattle.bmp_graded.specs.Maps.{multiples, extension}
 use Rattle.bmp_graded.proofs.ModuleMaps.{nothing_map, sum_of_maps}
 

@@ -17,7 +17,7 @@ use Rattle.bmp_graded.specs.Modules.{polynomials, moved, nothing, both, copies, 
 use Rattle.bmp_graded.specs.Maps.{extension}
 use Rattle.bmp_graded.specs.Components.{component, IsGenerator}
 use Rattle.bmp_graded.specs.Statements.{ExtensionsSendGenerators, MapsAreDetermined}
-use Rattle.bmp_graded.proofs.Totals.{total}
+use Rattle.bmp_graded.proofs.Totals.{one_times, total}
 use Rattle.bmp_graded.proofs.CopiesLemmas.{moved_dim, moved_none, moved_act_from, polynomials_dim}
 use Rattle.bmp_graded.proofs.GradedLemmas.{linear_zero, polynomials_is_module, moved_is_module, free_is_module}
 use Rattle.bmp_graded.proofs.ComponentLemmas.{start_of, component_at, count_none, generator_is, own_block}
@@ -61,9 +61,7 @@ generator_is_one r h gs wide inside =
 -- there is only one
 pub generator_once : (r h : ℕ) (gs : List ℕ) (u v : ℕ → ℕ) → r ≤ 6 → IsGenerator r gs h u → IsGenerator r gs h v → (j : ℕ) → j < (free r gs).dim (get_or gs h 0) → u j ≡ v j
 generator_once r h gs u v wide is_u is_v j below =
-    let d : ℕ = get_or gs h 0 in
     let there : IsPlaced r gs (get_or gs h 0) j = placed r gs (get_or gs h 0) j below in
-    let s : ℕ = get_or gs h 0 - get_or gs there.generator 0 in
     let m : List ℕ = exponents 6 r (get_or gs h 0 - get_or gs there.generator 0) there.place in
     let stands : StandsAt 6 r (get_or gs h 0 - get_or gs there.generator 0) there.place m = exponents_stand 6 r (get_or gs h 0 - get_or gs there.generator 0) there.place wide there.below in
     let read : (w : ℕ → ℕ) → component r gs there.generator (get_or gs h 0) w m ≡ w j =
@@ -87,11 +85,8 @@ module _ (p r k : ℕ) (m : List ℕ) (wide : r ≤ 6) (is : IsMonomial 6 r k m)
       ∙ ap (λ z. (polynomials r).act m z (d - g) u j) none ∙ ap (λ z. (polynomials r).act m 0 z u j) whole
       ∙ spread r 0 k k m wide is (omega arith) u j below
       ∙ sum_below_only (λ i. u i * unit (place r (joined (exponents 6 r 0 i) m)) j) (count r 0) 0 (omega (arith, count_none r)) (λ i few other. absurd (omega (arith, few, other, count_none r)))
-      ∙ ap (λ z. z * unit (place r (joined (exponents 6 r 0 0) m)) j) one ∙ once (unit (place r (joined (exponents 6 r 0 0) m)) j)
+      ∙ ap (λ z. z * unit (place r (joined (exponents 6 r 0 0) m)) j) one ∙ one_times (unit (place r (joined (exponents 6 r 0 0) m)) j)
       ∙ ap (λ z. unit (place r (joined z m)) j) (constant r wide) ∙ ap (λ z. unit (place r z) j) same
-    where
-      once : (x : ℕ) → 1 * x ≡ x
-      once x = omega arith
 
   -- m times the generator h is the element that is 1 at the place of m there
   pub generator_acted : (gs : List ℕ) (h d : ℕ) → h < length gs → get_or gs h 0 + k ≡ d → SameVector p ((free r gs).dim d) ((free r gs).act m (get_or gs h 0) d (generator r gs h)) (unit (start_of r gs d h + place r m))

@@ -56,7 +56,6 @@ polynomials_is_module p r wide = record {
       let same : less (exponents 6 r d j) (zeros 6) ≡ exponents 6 r d j = ap (λ w. less (exponents 6 r d j) (zeros w)) (sym stands.monomial.long) ∙ less-zeros (exponents 6 r d j) in
       ap (λ z. z % p) (cond-true {A = ℕ} (contains (exponents 6 r d j) (zeros 6)) (v (place r (less (exponents 6 r d j) (zeros 6)))) 0 fits ∙ ap (λ z. v (place r z)) same ∙ ap v stands.place_is);
   after = λ m n k h d t u v is_m is_n e f j l.
-      let x = exponents 6 r u j in
       let stands : StandsAt 6 r u j (exponents 6 r u j) = exponents_stand 6 r u j wide l in
       let long_x : length (exponents 6 r u j) ≡ length n = stands.monomial.long ∙ sym is_n.long in
       let long_m : length m ≡ length n = is_m.long ∙ sym is_n.long in

@@ -3,11 +3,10 @@ use Rattle.std.proofs.Common.{◌≡◌, ℕ, ◌+◌, ◌-◌, ◌*◌, ◌%◌
 use Rattle.std.proofs.lemmas.Bool.{cases_lt, cond-true, cond-false, lt-leb, le-leb, lt-ltb, le-ltb}
 use Rattle.bmp_math.specs.Vectors.{IsLinear}
 use Rattle.bmp_math.proofs.CongruenceLemmas.{same_add}
-use Rattle.bmp_graded.specs.Graded.{Graded, IsModule}
+use Rattle.bmp_graded.specs.Graded.{Graded, IsModule, IsModuleMap}
 use Rattle.bmp_graded.specs.Modules.{moved, both, nothing, copies}
 use Rattle.bmp_graded.specs.Maps.{blockwise}
 use Rattle.bmp_graded.proofs.GradedLemmas.{linear_zero, both_linear, nothing_is_module, moved_is_module, copies_is_module}
-use Rattle.bmp_graded.specs.Graded.{IsModuleMap}
 
 pub nothing_map : (p r : ℕ) (N : Graded) → IsModule p r N → IsModuleMap p r nothing N (λ d u j. 0)
 unfolding nothing

@@ -13,11 +13,10 @@ use Rattle.bmp_poly.proofs.NormalForms.{pure_congruent_same}
 use Rattle.bmp_poly.proofs.Reducing.{ReducedBelow, reduced_start, reduced_past, reduced_more, reduced_end}
 use Rattle.bmp_graded.specs.Graded.{IsModule}
 use Rattle.bmp_graded.proofs.GradedLemmas.{copies_is_module}
-use Rattle.bmp_graded.specs.Quotients.{reduced}
+use Rattle.bmp_graded.specs.Quotients.{reduced, quotient}
 use Rattle.bmp_graded.proofs.ReducedLaws.{reduced_is_module}
 use Rattle.bmp_graded.specs.NormalForms.{HasInverses, inverse_below, pass, normal_by}
 use Rattle.bmp_graded.specs.Statements.{QuotientsAreModules, NormalFormsAreNormal}
-use Rattle.bmp_graded.specs.Quotients.{quotient}
 
 inverse_found : (p x n m : ℕ) → m < n → (x * m) % p ≡ 1 → (x * inverse_below p x n) % p ≡ 1
 unfolding inverse_below
@@ -44,9 +43,7 @@ module _ (q r d l : ℕ) (c : ℕ → ℕ) (label : IsLabel (suc q) r c l) (wide
   unfolding pass
   pass_reduces zero le = reduced_start q 6 r d l c label wide a
   pass_reduces (suc n) le =
-      let e = exponents 6 r d n in
       let stands : StandsAt 6 r d n (exponents 6 r d n) = exponents_stand 6 r d n wide (omega arith) in
-      let b = pass (suc q) r l c d a n in
       let so_far : ReducedBelow (suc q) 6 r d c l (place r (exponents 6 r d n)) a (pass (suc q) r l c d a n) = rw stands.place_is (pass_reduces n (omega arith)) in
       let next : suc n ≡ place r (exponents 6 r d n) + 1 = omega (arith, stands.place_is) in
       let s = (suc q - 1) * (pass (suc q) r l c d a n (exponents 6 r d n) * inverse_below (suc q) (c l) (suc q)) in
@@ -91,7 +88,6 @@ pub normal_number : (p r l : ℕ) (coords : List ℕ) (d : ℕ) (a b : Form) →
 normal_number p r l coords d a b two inverses leads =
     label_cases (λ p r. IsNormalForm p 6 r d (λ k. get_or coords k 0) l a b → SameForm p 6 r d b (normal_by p r l (λ k. get_or coords k 0) d a)) p r l coords two inverses leads
     (λ q r label wide one is.
-    let c : ℕ → ℕ = λ k. get_or coords k 0 in
     let made : IsNormalForm (suc q) 6 (suc r) d (λ k. get_or coords k 0) l a (normal_by (suc q) (suc r) l (λ k. get_or coords k 0) d a) = normal_by_is q r l (λ k. get_or coords k 0) label wide one d a in
     pure_congruent_same q 6 (suc r) d l (λ k. get_or coords k 0) label wide b (normal_by (suc q) (suc r) l (λ k. get_or coords k 0) d a) is.pure made.pure
     (congruent_trans (suc q) 6 (suc r) d (λ k. get_or coords k 0) b a (normal_by (suc q) (suc r) l (λ k. get_or coords k 0) d a) (congruent_sym q 6 (suc r) d (λ k. get_or coords k 0) a b is.congruent) made.congruent))
@@ -99,7 +95,6 @@ normal_number p r l coords d a b two inverses leads =
 -- the same polynomials have the same normal forms
 pub normal_respects : (p r l : ℕ) (coords : List ℕ) (d : ℕ) (a b : Form) → 2 ≤ p → HasInverses p → IsLeading p r l coords → SameForm p 6 r d a b → SameForm p 6 r d (normal_by p r l (λ k. get_or coords k 0) d a) (normal_by p r l (λ k. get_or coords k 0) d b)
 normal_respects p r l coords d a b two inverses leads same =
-    let c : ℕ → ℕ = λ k. get_or coords k 0 in
     let made : IsNormalForm p 6 r d (λ k. get_or coords k 0) l a (normal_by p r l (λ k. get_or coords k 0) d a) = normal_forms_are_normal p r l coords d a two inverses leads in
     normal_number p r l coords d b (normal_by p r l (λ k. get_or coords k 0) d a) two inverses leads
     (record {

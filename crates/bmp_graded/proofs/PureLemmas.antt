@@ -52,11 +52,11 @@ without_monomial (suc r) l d i here wide inside =
     rw less_one (insert_monomial 5 r d l (exponents 5 r d i) (omega arith) (omega arith) stands.monomial)
 
 -- with no variable there is the monomial of degree 0 alone
-pub count_one : (r d : ℕ) → 0 < r → r ≤ 1 → d ≡ 0 → count (r - 1) d ≡ 1
+pub count_one : (r d : ℕ) → r ≤ 0 → d ≡ 0 → count r d ≡ 1
 unfolding count
-count_one r d some one none = let at : r - 1 ≡ 0 = omega arith in rw (at, none) refl
+count_one r d few none = let at : r ≡ 0 = omega arith in rw (at, none) refl
 
-pub count_no : (r d : ℕ) → 0 < r → r ≤ 1 → (d ≡ 0 → ⊥) → count (r - 1) d ≡ 0
+pub count_no : (r d : ℕ) → r ≤ 0 → (d ≡ 0 → ⊥) → count r d ≡ 0
 unfolding count
-count_no r zero some one other = absurd (other refl)
-count_no r (suc d) some one other = let at : r - 1 ≡ 0 = omega arith in rw at refl
+count_no r zero few other = absurd (other refl)
+count_no r (suc d) few other = let at : r ≡ 0 = omega arith in rw at refl

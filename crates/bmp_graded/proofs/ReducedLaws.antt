@@ -10,9 +10,8 @@ use Rattle.bmp_poly.proofs.NormalForms.{pure_congruent_same}
 use Rattle.bmp_math.specs.Vectors.{SameVector}
 use Rattle.bmp_poly.specs.Shifts.{contains, less, joined, shift}
 use Rattle.bmp_poly.proofs.ShiftLemmas.{less_monomial, contains-joined, contains-joined_false, less-joined, contains-zeros, less-zeros}
-use Rattle.bmp_graded.specs.Graded.{IsModule}
+use Rattle.bmp_graded.specs.Graded.{IsModule, IsModuleMap}
 use Rattle.bmp_graded.specs.Modules.{polynomials}
-use Rattle.bmp_graded.specs.Graded.{IsModuleMap}
 use Rattle.bmp_graded.proofs.GradedLemmas.{shift-add, shift-mul}
 use Rattle.bmp_graded.specs.Quotients.{insert, remove, pure_form, reduced}
 use Rattle.bmp_poly.proofs.ShiftedMultiples.{congruent_shift}
@@ -122,7 +121,6 @@ module _ (q r l : ℕ) (c : ℕ → ℕ) (label : IsLabel (suc q) (suc r) c l) (
         (insert l (exponents 5 r d j)) (inserted d j below)
         ∙ ap (λ z. z % suc q) (read_back d j v below);
     after = λ m n k h d t u v is_m is_n e f j below.
-        let b = normal t (shift m (pure_form r l v)) in
         let again : Congruent (suc q) 6 (suc r) t c (pure_form r l (λ i. normal t (shift m (pure_form r l v)) (insert l (exponents 5 r t i)))) (shift m (pure_form r l v)) =
         congruent_trans (suc q) 6 (suc r) t c (pure_form r l (λ i. normal t (shift m (pure_form r l v)) (insert l (exponents 5 r t i)))) (normal t (shift m (pure_form r l v))) (shift m (pure_form r l v))
         (congruent_refl (suc q) 6 (suc r) t c (pure_form r l (λ i. normal t (shift m (pure_form r l v)) (insert l (exponents 5 r t i)))) (normal t (shift m (pure_form r l v))) (pure_again t (normal t (shift m (pure_form r l v))) (normal_is t (shift m (pure_form r l v))).pure))

@@ -4,6 +4,12 @@ use Rattle.std.proofs.lemmas.Bool.{cases_eq}
 use Rattle.std.proofs.Math.Seq.{drop-cons}
 use Rattle.std.proofs.Math.ListN.{drop_of_length-le}
 
+pub none_times : (x : ℕ) → 0 * x ≡ 0
+none_times x = omega arith
+
+pub one_times : (x : ℕ) → 1 * x ≡ x
+one_times x = omega arith
+
 -- n g for each of the members g, in all
 unfoldable pub total : {X : Type 0} → (X → ℕ) → List X → ℕ
 total n [] = 0

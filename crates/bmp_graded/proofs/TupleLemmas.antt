@@ -42,7 +42,6 @@ joined_at dim coordinate (x ∷ ms) (y ∷ es) zero j m e inside sized below =
 joined_at dim coordinate (x ∷ ms) (y ∷ es) (suc k) j m e inside sized below =
     let rest : suc k < suc (length ms) = inside in
     let sizes : suc (length es) ≡ suc (length ms) = sized in
-    let i = (dim x + total dim (take k ms)) + j in
     let back : ((dim x + total dim (take k ms)) + j) - dim x ≡ total dim (take k ms) + j = omega arith in
     cond-false {A = ℕ} (ltb ((dim x + total dim (take k ms)) + j) (dim x)) (coordinate x y ((dim x + total dim (take k ms)) + j)) (joined_coordinates dim coordinate ms es (((dim x + total dim (take k ms)) + j) - dim x)) (le-ltb ((dim x + total dim (take k ms)) + j) (dim x) (omega arith))
     ∙ ap (joined_coordinates dim coordinate ms es) back ∙ joined_at dim coordinate ms es k j m e (omega arith) (omega arith) below
@@ -63,8 +62,6 @@ direct_sum_act graded x d t v (y ∷ ms) zero j m inside below =
     ∙ ap (λ w. (graded y).act x d t w j) (sym shifted))
 direct_sum_act graded x d t v (y ∷ ms) (suc k) j m inside below =
     let rest : suc k < suc (length ms) = inside in
-    let after = total (λ m. (graded m).dim t) (take k ms) in
-    let before = total (λ m. (graded m).dim d) (take k ms) in
     let i = ((graded y).dim t + total (λ m. (graded m).dim t) (take k ms)) + j in
     let back : (((graded y).dim t + total (λ m. (graded m).dim t) (take k ms)) + j) - (graded y).dim t ≡ total (λ m. (graded m).dim t) (take k ms) + j = omega arith in
     let shifted : (λ (a : ℕ). v ((graded y).dim d + (total (λ m. (graded m).dim d) (take k ms) + a))) ≡ (λ (a : ℕ). v (((graded y).dim d + total (λ m. (graded m).dim d) (take k ms)) + a)) = fun_ext (λ a. let at : (graded y).dim d + (total (λ m. (graded m).dim d) (take k ms) + a) ≡ ((graded y).dim d + total (λ m. (graded m).dim d) (take k ms)) + a = omega arith in ap v at) in
@@ -93,8 +90,6 @@ member (x ∷ xs) k inside = x
 pub joined_each : {M E : Type 0} (P : ℕ → Type 0) (dim : M → ℕ) (coordinate : M → E → ℕ → ℕ) (ms : List M) (es : List E) → length es ≡ length ms → ((k j : ℕ) (m : M) (e : E) → k < length ms → j < dim (get_or ms k m) → P (coordinate (get_or ms k m) (get_or es k e) j)) → (i : ℕ) → i < total dim ms → P (joined_coordinates dim coordinate ms es i)
 joined_each P dim coordinate ms es sized each i inside =
     let at : Located dim ms i = locate dim ms i inside in
-    let m = member ms at.part at.inside in
-    let e = member es at.part (let within = at.inside in omega arith) in
     let read = joined_at dim coordinate ms es at.part at.place (member ms at.part at.inside) (member es at.part (let within = at.inside in omega arith)) at.inside sized (at.below (member ms at.part at.inside)) in
     subst P (sym (ap (joined_coordinates dim coordinate ms es) at.is ∙ read)) (each at.part at.place (member ms at.part at.inside) (member es at.part (let within = at.inside in omega arith)) at.inside (at.below (member ms at.part at.inside)))
 

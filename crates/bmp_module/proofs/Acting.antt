@@ -29,7 +29,6 @@ module _ {E : Type 0} (is_value : E → Type 0) (num : E → ℕ) (p : ℕ) (X :
   pub acted_more : (r : ℕ) (xs : List ℕ) (k start end : ℕ) (ys out new : List E) (h : ℕ → ℕ) → IsModule p r X → IsMonomial 6 r (sum m) m → ((a : E) → is_value a → num a < p) → xs ≡ gs → ys ≡ numbers → k < length xs → end ≡ start + (moved (get_or xs k 0) X).dim d → IsAppended is_value num out new ((moved (get_or xs k 0) X).dim (d + sum m)) h → SameVector p ((moved (get_or xs k 0) X).dim (d + sum m)) h ((moved (get_or xs k 0) X).act m d (d + sum m) (coefficient num (slice_range ys start end))) → Acted is_value num p X m d gs numbers k start out → Acted is_value num p X m d gs numbers (k + 1) end new
   acted_more r xs k start end ys out new h laws is_m small same same_numbers inside end_is block agree so_far =
       let here : k < length gs = rw (← same) inside in
-      let g = get_or xs k 0 in
       walked_more is_value num p (block_dim X d) (block_dim X (d + sum m)) (block_act X m d (d + sum m)) gs (coefficient num numbers) k start end (get_or xs k 0) out new h
       here (ap (λ z. get_or z k 0) same) end_is small block
       (λ i below. agree i below

@@ -113,7 +113,6 @@ module _ (p r d : ℕ) (M : Graded) (gs : List ℕ) (ws : ℕ → ℕ → ℕ) w
   pub extension_more : (h a : ℕ) (w : ℕ → ℕ) (mid new : List ℕ) → h < length gs → a ≡ get_or gs h 0 → w ≡ ws h → HasColumns (M.dim d) (start_of r gs d h) entry [] mid →
       HasColumns (M.dim d) ((moved a (polynomials r)).dim d) (λ j i. M.act (exponents 6 r (d - a) j) a d w i % p) mid new → HasColumns (M.dim d) (start_of r gs d (h + 1)) entry [] new
   extension_more h a w mid new inside a_is w_is so_far last =
-      let block : ℕ = (moved (get_or gs h 0) (polynomials r)).dim d in
       let next : start_of r gs d (h + 1) ≡ start_of r gs d h + (moved (get_or gs h 0) (polynomials r)).dim d = start_more r d h gs inside in
       let sizes : (moved a (polynomials r)).dim d ≡ (moved (get_or gs h 0) (polynomials r)).dim d = ap (λ z. (moved z (polynomials r)).dim d) a_is in
       columns_as (M.dim d) (start_of r gs d h + (moved (get_or gs h 0) (polynomials r)).dim d) (start_of r gs d (h + 1)) entry entry [] new (sym next) (λ j i below within. refl)

@@ -82,8 +82,6 @@ module _ (p r : ℕ) (M : Graded) (gs : List ℕ) (ws : ℕ → ℕ → ℕ) (d 
       record {
         source = let more = total_rest (block_dim (polynomials r) d) gs k 0 inside in let size : (moved g (polynomials r)).dim d ≡ (moved (get_or gs k 0) (polynomials r)).dim d = ap (λ z. (moved z (polynomials r)).dim d) g_is in omega (arith, h.source, more);
         sums = λ j l.
-            let A' = multiples r M g w d b j in
-            let B = extension r M (drop (k + 1) gs) (λ h. ws ((k + 1) + h)) d (λ i. u (end + i)) j in
             let split : extension r M (drop k gs) (λ h. ws (k + h)) d (λ i. u (start + i)) j ≡ multiples r M g w d (λ i. u (start + i)) j + extension r M (drop (k + 1) gs) (λ h. ws ((k + 1) + h)) d (λ i. u (end + i)) j =
             extension_rest r M gs (λ h. ws (k + h)) d (λ i. u (start + i)) k j inside
             ∙ ap₂ (λ a c. a + c)

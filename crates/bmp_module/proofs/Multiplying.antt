@@ -43,7 +43,6 @@ pub moved_act : (r g d i : ℕ) (m : List ℕ) (v : ℕ → ℕ) → r ≤ 6 →
 unfolding moved polynomials
 moved_act r g d i m v wide is_m from inside = elim (cases_lt d g) [
   | inl early ↦
-      let t = (d + sum m) - g in
       let stands : StandsAt 6 r ((d + sum m) - g) i (exponents 6 r ((d + sum m) - g) i) = exponents_stand 6 r ((d + sum m) - g) i wide inside in
       let short : sum (exponents 6 r ((d + sum m) - g) i) < sum m = omega (arith, stands.monomial.size) in
       cond-false {A = ℕ} (contains (exponents 6 r ((d + sum m) - g) i) m) (v (place r (less (exponents 6 r ((d + sum m) - g) i) m))) 0 (contains_short (exponents 6 r ((d + sum m) - g) i) m (stands.monomial.long ∙ sym is_m.long) short)

@@ -15,8 +15,7 @@ use Rattle.bmp_graded.specs.NormalForms.{normal_by}
 use Rattle.bmp_graded.specs.Quotients.{insert}
 use Rattle.bmp_graded.proofs.CoordinateLemmas.{length_more}
 use Rattle.bmp_module.specs.Appended.{IsAppended}
-use Rattle.bmp_module.specs.Tables.{normal_number}
-use Rattle.bmp_module.specs.Tables.{IsNormalColumn, HasNormalColumns, HasNormalForms}
+use Rattle.bmp_module.specs.Tables.{normal_number, IsNormalColumn, HasNormalColumns, HasNormalForms}
 
 pub unit_sym : (i j : ℕ) → unit i j ≡ unit j i
 unit_sym i j = elim (cases_eq i j) [
@@ -86,7 +85,6 @@ module _ (p r l : ℕ) (c : ℕ → ℕ) where
 
   pub columns_more : (s n : ℕ) (numbers column : List ℕ) → HasNormalColumns p r c l s n numbers → IsNormalColumn p r c l s n column → HasNormalColumns p r c l s (n + 1) (numbers ++ column)
   columns_more s n numbers column h last =
-      let rows : ℕ = count (r - 1) s in
       let sized : length numbers ≡ n * count (r - 1) s = h.sized in
       let one : length column ≡ count (r - 1) s = last.sized in
       record {

@@ -31,6 +31,7 @@ use Rattle.bmp_graded.proofs.PassLaws.{normal_respects, reduced_over}
 use Rattle.bmp_graded.proofs.PureLemmas.{without_monomial}
 use Rattle.bmp_graded.proofs.QuotientLemmas.{insert_at, insert_remove, remove_insert, remove_monomial}
 use Rattle.bmp_graded.proofs.ReducedLaws.{reduced_dim}
+use Rattle.bmp_graded.proofs.Totals.{none_times, one_times}
 use Rattle.bmp_module.specs.Appended.{IsAppended}
 use Rattle.bmp_module.specs.Tables.{normal_number, combined, IsNormalColumn, ArePlaces}
 use Rattle.bmp_module.proofs.NormalColumns.{unit_sym}
@@ -81,16 +82,10 @@ module _ (r l d j : ℕ) (here : l < r) (wide : r ≤ 6) (inside : j < count (r 
       ∙ sum_below_only (λ i. pure_form (r - 1) l (unit j) (exponents 6 r d i) * unit_form r h (joined m (exponents 6 r d i))) (count r d) (place r x) here_below
       (λ i below other.
       let stands : StandsAt 6 r d i (exponents 6 r d i) = exponents_stand 6 r d i wide below in
-      ap (λ z. z * unit_form r h (joined m (exponents 6 r d i))) (pure_elsewhere (exponents 6 r d i) stands.monomial (λ same. other (sym stands.place_is ∙ ap (place r) same))) ∙ nothing (unit_form r h (joined m (exponents 6 r d i))))
+      ap (λ z. z * unit_form r h (joined m (exponents 6 r d i))) (pure_elsewhere (exponents 6 r d i) stands.monomial (λ same. other (sym stands.place_is ∙ ap (place r) same))) ∙ none_times (unit_form r h (joined m (exponents 6 r d i))))
       ∙ ap (λ z. pure_form (r - 1) l (unit j) z * unit_form r h (joined m z)) at_place
-      ∙ ap (λ z. z * unit_form r h (joined m x)) pure_here ∙ once (unit_form r h (joined m x))
+      ∙ ap (λ z. z * unit_form r h (joined m x)) pure_here ∙ one_times (unit_form r h (joined m x))
       ∙ unit_sym (place r (joined m x)) (place r h)
-    where
-      nothing : (y : ℕ) → 0 * y ≡ 0
-      nothing y = omega arith
-
-      once : (y : ℕ) → 1 * y ≡ y
-      once y = omega arith
 
 -- what m does to an element of one component: a sum of normal forms of monomials
 module _ (p r l : ℕ) (coords : List ℕ) (two : 2 ≤ p) (inverses : HasInverses p) (leads : IsLeading p r l coords) (k d : ℕ) (m : List ℕ) (is_m : IsMonomial 6 r k m) where
@@ -104,7 +99,6 @@ module _ (p r l : ℕ) (coords : List ℕ) (two : 2 ≤ p) (inverses : HasInvers
   act_unit : (j i : ℕ) → j < count (r - 1) d → i < count (r - 1) (d + k) → SameMod p (Q.act m d (d + k) (unit j) i) (normal_number p r (λ k. get_or coords k 0) l (d + k) (unit_form r (joined m (insert l (exponents 5 (r - 1) d j)))) i)
   act_unit j i inside below =
       let order : k + d ≡ d + k = omega arith in
-      let at : List ℕ = insert l (exponents 5 (r - 1) (d + k) i) in
       ap (λ z. z % p) (act_is (d + k) (unit j) i)
       ∙ normal_respects p r l coords (d + k) (shift m (pure_form (r - 1) l (unit j))) (unit_form r (joined m (insert l (exponents 5 (r - 1) d j)))) two inverses leads
       (λ h is_h. ap (λ z. z % p) (shift_unit r l d j leads.here leads.rank inside k m h is_m (rw order is_h)))
@@ -155,18 +149,14 @@ module _ {E : Type 0} (is_value : E → Type 0) (num : E → ℕ) (q p r l : ℕ
   pub number_passed : (k : ℕ) (total v : E) → k < length block → v ≡ get_or block k v → num v ≡ 0 → IsNumberBelow is_value num q p r l coords s places block i k total → IsNumberBelow is_value num q p r l coords s places block i (k + 1) total
   number_passed k total v inside read none h =
       let y : ℕ = normal_number p r (λ k. get_or coords k 0) l s (unit_form r (exponents 6 r s (get_or places k 0))) i in
-      let nothing : part k ≡ 0 = ap (λ z. z * normal_number p r (λ k. get_or coords k 0) l s (unit_form r (exponents 6 r s (get_or places k 0))) i) (coefficient_read num block k v inside read ∙ none) ∙ no_times (normal_number p r (λ k. get_or coords k 0) l s (unit_form r (exponents 6 r s (get_or places k 0))) i) in
+      let nothing : part k ≡ 0 = ap (λ z. z * normal_number p r (λ k. get_or coords k 0) l s (unit_form r (exponents 6 r s (get_or places k 0))) i) (coefficient_read num block k v inside read ∙ none) ∙ none_times (normal_number p r (λ k. get_or coords k 0) l s (unit_form r (exponents 6 r s (get_or places k 0))) i) in
       record { value = h.value; number = h.number ∙ ap (λ z. z % q) (sym (sum_below_more part k ∙ ap (λ z. sum_below part k + z) nothing ∙ plain (sum_below part k))) }
     where
       plain : (y : ℕ) → y + 0 ≡ y
       plain y = omega arith
 
-      no_times : (y : ℕ) → 0 * y ≡ 0
-      no_times y = omega arith
-
   pub number_more : (k : ℕ) (total v factor term next : E) (x : ℕ) (column : List ℕ) → k < length block → v ≡ get_or block k v → i < count (r - 1) s → IsNormalColumn p r (λ k. get_or coords k 0) l s (get_or places k 0) column → num factor ≡ x → x ≡ get_or column i 0 → num term ≡ (num v * num factor) % q → is_value next → num next ≡ (num total + num term) % q → IsNumberBelow is_value num q p r l coords s places block i k total → IsNumberBelow is_value num q p r l coords s places block i (k + 1) next
   number_more k total v factor term next x column inside read below is factor_is x_is term_is value number h =
-      let y : ℕ = normal_number p r (λ k. get_or coords k 0) l s (unit_form r (exponents 6 r s (get_or places k 0))) i in
       let same : part k ≡ num v * num factor = ap₂ (λ a b. a * b) (coefficient_read num block k v inside read) (sym (factor_is ∙ x_is ∙ is.each i below)) in
       record {
         value = value;
@@ -216,7 +206,6 @@ pub combined_appended : {E : Type 0} (is_value : E → Type 0) (num : E → ℕ)
     → IsAppended is_value num old new n (λ i. combined s r (λ k. get_or coords k 0) l (raised - g) (λ k. get_or places k 0) (coefficient num block) (length block) i % p)
     → let Q = reduced (r - 1) l (normal_by s (suc (r - 1)) l (λ k. get_or coords k 0)) in IsAppended is_value num old new ((moved g Q).dim (d + sum m)) (λ i. (moved g Q).act m d (d + sum m) (coefficient num block) i % p)
 combined_appended is_value num p s r l coords g d raised n m places block old new same two inverses leads from raised_is is_m sized are all h =
-    let c : ℕ → ℕ = λ k. get_or coords k 0 in
     let degree : raised - g ≡ (d - g) + sum m = omega arith in
     let degree' : (d + sum m) - g ≡ (d - g) + sum m = omega arith in
     let leads_p : IsLeading p r l coords = rw (← same) at leads in

@@ -10,15 +10,30 @@ use bmp_field::Field;
 use bmp_poly::monomials;
 use std::alloc::{AllocError, Global};
 
+/// How many monomials of the degree there are in `rank` variables. In none there is 1 alone.
+pub(crate) fn count(rank: u8, degree: u32) -> u32
+    requires rank { rank ≤ 6 }
+    requires degree { degree ≤ 6 }
+    ensures number { result ≡ count rank degree }
+    ensures most { result ≤ 462 }
+{
+    if rank > 0 {
+        monomials::count(rank, degree)
+    } else if degree == 0 {
+        1
+    } else {
+        0
+    }
+}
+
 /// How many coordinates of degree `degree` a generator of degree `generator` has.
 pub(crate) fn block_length(rank: u8, generator: u32, degree: u32) -> u32
-    requires some { 0 < rank }
     requires rank { rank ≤ 6 }
     requires degree { degree ≤ 6 }
     ensures { result ≡ (moved generator (polynomials rank)).dim degree }
 {
     if generator <= degree {
-        monomials::count(rank, degree - generator)
+        count(rank, degree - generator)
     } else {
         0
     }
@@ -60,7 +75,6 @@ pub(crate) fn multiple_at<F: Field>(
     m: &[u8; 6],
     block: &[F::E],
 ) -> F::E
-    requires some { 0 < rank }
     requires rank { rank ≤ 6 }
     requires degree { degree ≤ 6 }
     requires place { i < count rank degree }
@@ -88,7 +102,6 @@ pub(crate) fn push_multiple<F: Field>(
     block: &[F::E],
     numbers: &mut Vec<F::E>,
 ) -> Result<(), AllocError>
-    requires some { 0 < rank }
     requires rank { rank ≤ 6 }
     requires degree { degree + sum m.now ≤ 6 }
     requires monomial { IsMonomial 6 rank (sum m.now) m.now }
@@ -105,7 +118,7 @@ pub(crate) fn push_multiple<F: Field>(
         return Ok(());
     }
     let rest = raised - generator;
-    for i in 0..monomials::count(rank, rest) {
+    for i in 0..count(rank, rest) {
         numbers.push(multiple_at(f, rank, rest, i, m, block))?;
     }
     Ok(())

@@ -7,6 +7,7 @@ ghost use Rattle.bmp_graded.specs.Maps.{extension};
 ghost use Rattle.bmp_module.specs.Images.{AreImages, image_coordinates};
 ghost use Rattle.bmp_module.specs.Columns.{HasColumns, HasColumnsOf, matrix_of_map};
 
+use crate::blocks;
 use crate::graded::GradedModule;
 use crate::linear::Linear;
 use bmp_field::Field;
@@ -44,7 +45,6 @@ fn push_multiples<F: Field, N: GradedModule<F>>(
 ) -> Result<(), AllocError>
     requires fits { N.fits over.now (F.size f.now) }
     requires rank { rank ≤ N.rank over.now }
-    requires some { 0 < rank }
     requires wide { rank ≤ 6 }
     requires image { N.is_element over.now f.now image.now }
     requires degree { d ≤ 6 }
@@ -58,7 +58,7 @@ fn push_multiples<F: Field, N: GradedModule<F>>(
     if a > d {
         return Ok(());
     }
-    for t in 0..monomials::count(rank, d - a) {
+    for t in 0..blocks::count(rank, d - a) {
         let m = monomials::monomial_at(rank, d - a, t);
         let multiple = over.act(alloc, f, m, image)?;
         push_coordinates(f, over, &multiple, columns)?;

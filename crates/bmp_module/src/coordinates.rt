@@ -1,10 +1,31 @@
 //! Elements that are one flat list of coordinates.
-ghost use Rattle.std.specs.Prelude.{◌≡◌, ◌↔◌, ℕ, ◌<◌, ◌≤◌, ◌^◌, ◌+◌, ◌*◌, ◌%◌, IfOk, IsTrue, All, length, vec_len};
+ghost use Rattle.std.specs.Prelude.{◌≡◌, ◌↔◌, ℕ, ◌<◌, IfOk, IsTrue, All, length};
+ghost use Rattle.bmp_math.specs.Vectors.{unit};
 ghost use Rattle.bmp_poly.specs.Coefficients.{coefficient};
 
+use crate::normal;
 use bmp_field::Field;
-use bmp_poly::sums;
 use std::alloc::{AllocError, Global};
+
+/// `len` values, 1 at `place` and 0 elsewhere.
+pub(crate) fn unit<F: Field>(
+    alloc: Global,
+    f: &F,
+    len: u64,
+    place: u64,
+) -> Result<Vec<F::E>, AllocError>
+    requires { place < len }
+    ensures sized { IfOk result (λ xs. length xs.items ≡ len) }
+    ensures values { IfOk result (λ xs. All (F.is_value f.now) xs.items) }
+    ensures unit { IfOk result (λ xs. (i : ℕ) → coefficient (F.num f.now) xs.items i ≡ unit place i) }
+{
+    let mut values = Vec::new(alloc);
+    for i in 0..len {
+        let value = if i == place { f.one() } else { f.zero() };
+        values.push(value)?;
+    }
+    Ok(values)
+}
 
 /// An element of a degree, by its coordinates in their order.
 #[derive(Drop)]
@@ -27,40 +48,8 @@ impl<F: Field> Coordinates<F> {
         ensures zero { IfOk result (λ e. (i : ℕ) → coefficient (F.num f.now) e.numbers.items i ≡ 0) }
     {
         let mut numbers = Vec::new(alloc);
-        for _ in 0..len {
-            numbers.push(f.zero())?;
-        }
+        normal::push_zeros(f, len, &mut numbers)?;
         Ok(Coordinates { degree, numbers })
-    }
-
-    /// Adds the coordinates of `other`.
-    pub(crate) fn add_in(&mut self, f: &F, other: &Coordinates<F>)
-        requires sized { length self.old.numbers.items ≡ length other.now.numbers.items }
-        requires values { All (F.is_value f.now) self.old.numbers.items }
-        requires other { All (F.is_value f.now) other.now.numbers.items }
-        ensures degree { self.new.degree ≡ self.old.degree }
-        ensures sized { length self.new.numbers.items ≡ length self.old.numbers.items }
-        ensures values { All (F.is_value f.now) self.new.numbers.items }
-        ensures sum { (i : ℕ) → i < length self.old.numbers.items →
-            coefficient (F.num f.now) self.new.numbers.items i ≡
-            (coefficient (F.num f.now) self.old.numbers.items i
-            + coefficient (F.num f.now) other.now.numbers.items i) % F.size f.now }
-    {
-        sums::add_coefficients(f, &mut self.numbers, &other.numbers);
-    }
-
-    /// Multiplies the coordinates by `c`.
-    pub(crate) fn scale_in(&mut self, f: &F, c: F::E)
-        requires values { All (F.is_value f.now) self.old.numbers.items }
-        requires value { F.is_value f.now c }
-        ensures degree { self.new.degree ≡ self.old.degree }
-        ensures sized { length self.new.numbers.items ≡ length self.old.numbers.items }
-        ensures values { All (F.is_value f.now) self.new.numbers.items }
-        ensures product { (i : ℕ) → i < length self.old.numbers.items →
-            coefficient (F.num f.now) self.new.numbers.items i ≡
-            (F.num f.now c * coefficient (F.num f.now) self.old.numbers.items i) % F.size f.now }
-    {
-        sums::scale_coefficients(f, &mut self.numbers, c);
     }
 
     /// The coordinate at `i`.

@@ -7,10 +7,26 @@ ghost use Rattle.bmp_graded.specs.Modules.{free};
 ghost use Rattle.bmp_module.specs.Elements.{IsElement};
 
 use crate::blocks;
-use crate::coordinates::Coordinates;
+use crate::coordinates::{self, Coordinates};
 use crate::graded::GradedModule;
 use bmp_field::Field;
+use bmp_poly::sums;
 use std::alloc::{AllocError, Global};
+
+/// The dimension in degree `d` of the free module in `rank` variables with generators of these degrees. It is also that
+/// of the free module in one variable more modulo a label.
+pub fn dimension(rank: u8, degrees: &[u32], d: u32) -> u64
+    requires rank { rank ≤ 6 }
+    requires degree { d ≤ 6 }
+    requires few { length degrees.now < 2 ^ 32 }
+    ensures { result ≡ (free rank degrees.now).dim d }
+{
+    let mut dim = 0;
+    for g in degrees {
+        dim += u64::from(blocks::block_length(rank, *g, d));
+    }
+    dim
+}
 
 /// A free module, with a generator of each of the degrees.
 ///
@@ -41,18 +57,6 @@ impl Free {
     {
         let degrees = Vec::from_slice(alloc, degrees)?;
         Ok(Free { rank, degrees })
-    }
-
-    /// The same module again.
-    pub fn copy(&self, alloc: Global) -> Result<Free, AllocError>
-        ensures rank { IfOk result (λ s. rank_of s ≡ rank_of self.now) }
-        ensures degrees { IfOk result (λ s. degrees_of s ≡ degrees_of self.now) }
-    {
-        let degrees = Vec::from_slice(alloc, &self.degrees)?;
-        Ok(Free {
-            rank: self.rank,
-            degrees,
-        })
     }
 
     /// The number of variables.
@@ -111,13 +115,10 @@ impl Free {
             (coefficient (F.num f.now) e.numbers.items)) }
     {
         let degree = self.degrees[g as usize];
-        let mut start = 0;
-        for h in 0..g {
-            start += blocks::block_length(self.rank, self.degrees[h as usize], degree) as usize;
-        }
-        let mut generator = <Free as GradedModule<F>>::zero(self, alloc, f, degree)?;
-        generator.numbers[start] = f.one();
-        Ok(generator)
+        let dim = dimension(self.rank, &self.degrees, degree);
+        let start = dimension(self.rank, &self.degrees[..g as usize], degree);
+        let numbers = coordinates::unit(alloc, f, dim, start)?;
+        Ok(Coordinates { degree, numbers })
     }
 
     /// The element of degree `d` with these numbers as its coordinates.
@@ -168,11 +169,7 @@ impl<F: Field> GradedModule<F> for Free {
     ghost coordinate = { λ s f e. coefficient (F.num f) e.numbers.items };
 
     fn dim(&self, d: u32) -> u64 {
-        let mut dim = 0;
-        for g in &self.degrees {
-            dim += u64::from(blocks::block_length(self.rank, *g, d));
-        }
-        dim
+        dimension(self.rank, &self.degrees, d)
     }
 
     fn degree(&self, e: &Coordinates<F>) -> u32 {
@@ -186,11 +183,11 @@ impl<F: Field> GradedModule<F> for Free {
     }
 
     fn add_in(&self, f: &F, into: &mut Coordinates<F>, other: &Coordinates<F>) {
-        into.add_in(f, other);
+        sums::add_coefficients(f, &mut into.numbers, &other.numbers);
     }
 
     fn scale_in(&self, f: &F, into: &mut Coordinates<F>, c: F::E) {
-        into.scale_in(f, c);
+        sums::scale_coefficients(f, &mut into.numbers, c);
     }
 
     fn act(

@@ -84,7 +84,6 @@ fn add_multiples<F: Field, N: GradedModule<F>>(
 ) -> Result<(), AllocError>
     requires fits { N.fits into.now (F.size f.now) }
     requires rank { rank ≤ N.rank into.now }
-    requires some { 0 < rank }
     requires wide { rank ≤ 6 }
     requires image { N.is_element into.now f.now image.now }
     requires generator { N.degree into.now image.now ≡ generator }
@@ -104,7 +103,7 @@ fn add_multiples<F: Field, N: GradedModule<F>>(
     if generator > degree {
         return Ok(());
     }
-    for i in 0..monomials::count(rank, degree - generator) {
+    for i in 0..blocks::count(rank, degree - generator) {
         let m = monomials::monomial_at(rank, degree - generator, i);
         add_multiple(alloc, f, into, m, block[i as usize], image, total)?;
     }

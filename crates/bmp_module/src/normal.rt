@@ -38,7 +38,7 @@ pub fn push_normal<F: Field>(
     label.reduce_coefficients(f, degree, coefficients);
     let rank = label.rank();
     let leading = label.leading() - 1;
-    for i in 0..pure::count_without(rank, degree) {
+    for i in 0..blocks::count(rank - 1, degree) {
         let e = pure::monomial_without(rank, leading, degree, i);
         numbers.push(coefficients[monomials::place_of(rank, degree, &e) as usize])?;
     }
@@ -46,7 +46,7 @@ pub fn push_normal<F: Field>(
 }
 
 /// Appends `n` zeros.
-pub(crate) fn push_zeros<F: Field>(f: &F, n: u32, numbers: &mut Vec<F::E>) -> Result<(), AllocError>
+pub(crate) fn push_zeros<F: Field>(f: &F, n: u64, numbers: &mut Vec<F::E>) -> Result<(), AllocError>
     requires { All (F.is_value f.now) numbers.old.items }
     ensures { OnOk result (IsAppended (F.is_value f.now) (F.num f.now) numbers.old.items numbers.new.items n (λ i. 0)) }
 {

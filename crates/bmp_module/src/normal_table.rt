@@ -1,40 +1,13 @@
 //! Tables of normal forms by a label, made once.
 ghost use Rattle.std.specs.Prelude.{◌≡◌, ℕ, ◌<◌, ◌≤◌, ◌+◌, ◌-◌, ◌*◌, IfOk, All, List, length, map, slice_index};
-ghost use Rattle.bmp_math.specs.Vectors.{unit};
 ghost use Rattle.bmp_poly.specs.Exponents.{count};
-ghost use Rattle.bmp_poly.specs.Coefficients.{coefficient};
 ghost use Rattle.bmp_poly.specs.Labels.{prime_of, rank_of, leading_of, coordinate_of};
 ghost use Rattle.bmp_module.specs.Tables.{IsNormalColumn, HasNormalColumns, HasNormalForms};
 
-use crate::{normal, pure};
+use crate::{blocks, coordinates, normal};
 use bmp_field::Field;
 use bmp_poly::{Label, monomials};
 use std::alloc::{AllocError, Global};
-
-/// The coefficients of the monomial at place `t` as a polynomial: 1 there, 0 elsewhere.
-fn monomial<F: Field>(
-    alloc: Global,
-    f: &F,
-    rank: u8,
-    degree: u32,
-    t: u32,
-) -> Result<Vec<F::E>, AllocError>
-    requires some { 0 < rank }
-    requires rank { rank ≤ 6 }
-    requires degree { degree ≤ 6 }
-    requires place { t < count rank degree }
-    ensures sized { IfOk result (λ xs. length xs.items ≡ count rank degree) }
-    ensures values { IfOk result (λ xs. All (F.is_value f.now) xs.items) }
-    ensures unit { IfOk result (λ xs. (i : ℕ) → coefficient (F.num f.now) xs.items i ≡ unit t i) }
-{
-    let members = monomials::count(rank, degree);
-    let mut coefficients = Vec::with_capacity(alloc, members as usize)?;
-    for i in 0..members {
-        let value = if i == t { f.one() } else { f.zero() };
-        coefficients.push(value)?;
-    }
-    Ok(coefficients)
-}
 
 /// The numbers of the normal form of the monomial at place `t`, of those without the leading variable.
 fn column<F: Field>(
@@ -50,7 +23,8 @@ fn column<F: Field>(
     ensures { IfOk result (λ v. IsNormalColumn (prime_of label.now) (rank_of label.now) (coordinate_of label.now)
         (leading_of label.now) degree t v.items) }
 {
-    let mut coefficients = monomial(alloc, f, label.rank(), degree, t)?;
+    let members = u64::from(blocks::count(label.rank(), degree));
+    let mut coefficients = coordinates::unit(alloc, f, members, u64::from(t))?;
     let mut normal = Vec::new(alloc);
     normal::push_normal(f, label, degree, &mut coefficients, &mut normal)?;
     let mut numbers = Vec::with_capacity(alloc, normal.len())?;
@@ -143,7 +117,7 @@ impl NormalTable {
         ensures { let x = label_of self.now in
             IsNormalColumn (prime_of x) (rank_of x) (coordinate_of x) (leading_of x) s t result.now }
     {
-        let rows = pure::count_without(self.label.rank(), s) as usize;
+        let rows = blocks::count(self.label.rank() - 1, s) as usize;
         let start = t as usize * rows;
         &self.columns[s as usize][start..start + rows]
     }

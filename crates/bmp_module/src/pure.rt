@@ -1,9 +1,7 @@
 //! Monomials without one variable, which are the monomials in one variable fewer.
-ghost use Rattle.std.specs.Prelude.{◌≡◌, ℕ, ◌+◌, ◌-◌, ◌<◌, ◌≤◌, [], ◌∷◌, ◌++◌, slice_index, take};
+ghost use Rattle.std.specs.Prelude.{◌≡◌, ◌-◌, ◌<◌, ◌≤◌, slice_index, take};
 ghost use Rattle.bmp_poly.specs.Exponents.{count, exponents};
-ghost use Rattle.bmp_poly.specs.Forms.{Form};
-ghost use Rattle.bmp_graded.specs.Modules.{moved};
-ghost use Rattle.bmp_graded.specs.Quotients.{insert, remove, reduced};
+ghost use Rattle.bmp_graded.specs.Quotients.{insert};
 
 use bmp_poly::monomials;
 
@@ -16,38 +14,6 @@ pub(crate) fn with_variable(m: &[u8; 6], at: u8) -> [u8; 6]
     let mut wider = *m;
     wider[at as usize..].rotate_right(1);
     wider
-}
-
-/// How many monomials of a degree lack one of the `rank` variables.
-pub fn count_without(rank: u8, degree: u32) -> u32
-    requires some { 0 < rank }
-    requires rank { rank ≤ 6 }
-    requires degree { degree ≤ 6 }
-    ensures number { result ≡ count (rank - 1) degree }
-    ensures most { result ≤ 462 }
-{
-    if rank > 1 {
-        monomials::count(rank - 1, degree)
-    } else if degree == 0 {
-        1
-    } else {
-        0
-    }
-}
-
-/// How many coordinates of degree `degree` a generator of degree `generator` has modulo a label.
-pub(crate) fn block_length(rank: u8, generator: u32, degree: u32) -> u32
-    requires some { 0 < rank }
-    requires rank { rank ≤ 6 }
-    requires degree { degree ≤ 6 }
-    ensures { (l : ℕ) (normal : ℕ → Form → Form) →
-        result ≡ (moved generator (reduced (rank - 1) l normal)).dim degree }
-{
-    if generator <= degree {
-        count_without(rank, degree - generator)
-    } else {
-        0
-    }
 }
 
 /// The monomial without the variable at `at` that stands at place `i` among those of its degree.

@@ -7,12 +7,12 @@ ghost use Rattle.bmp_graded.specs.Quotients.{quotient};
 ghost use Rattle.bmp_module.specs.Elements.{IsElement};
 
 use crate::coordinates::Coordinates;
-use crate::free::Free;
+use crate::free::{self, Free};
 use crate::graded::GradedModule;
 use crate::normal_table::NormalTable;
-use crate::{blocks, pure, tabled};
+use crate::{blocks, tabled};
 use bmp_field::Field;
-use bmp_poly::Label;
+use bmp_poly::{Label, sums};
 use std::alloc::{AllocError, Global};
 
 /// A free module modulo the label times itself.
@@ -40,7 +40,7 @@ impl Quotient {
         ensures degrees { IfOk result (λ s. degrees_of (free_of s) ≡ degrees_of free.now) }
         ensures label { IfOk result (λ s. label_of s ≡ label.now) }
     {
-        let free = free.copy(alloc)?;
+        let free = Free::new(alloc, free.rank, &free.degrees)?;
         Ok(Quotient {
             free,
             label: *label,
@@ -84,11 +84,7 @@ impl<F: Field> GradedModule<F> for Quotient {
     ghost coordinate = { λ s f e. coefficient (F.num f) e.numbers.items };
 
     fn dim(&self, d: u32) -> u64 {
-        let mut dim = 0;
-        for g in &self.free.degrees {
-            dim += u64::from(pure::block_length(self.free.rank, *g, d));
-        }
-        dim
+        free::dimension(self.free.rank - 1, &self.free.degrees, d)
     }
 
     fn degree(&self, e: &Coordinates<F>) -> u32 {
@@ -102,11 +98,11 @@ impl<F: Field> GradedModule<F> for Quotient {
     }
 
     fn add_in(&self, f: &F, into: &mut Coordinates<F>, other: &Coordinates<F>) {
-        into.add_in(f, other);
+        sums::add_coefficients(f, &mut into.numbers, &other.numbers);
     }
 
     fn scale_in(&self, f: &F, into: &mut Coordinates<F>, c: F::E) {
-        into.scale_in(f, c);
+        sums::scale_coefficients(f, &mut into.numbers, c);
     }
 
     fn act(

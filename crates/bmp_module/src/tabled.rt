@@ -19,7 +19,7 @@ use crate::normal_table::NormalTable;
 use crate::quotient::Quotient;
 use crate::{blocks, normal, pure};
 use bmp_field::Field;
-use bmp_poly::{Label, monomials};
+use bmp_poly::{Label, monomials, sums};
 use std::alloc::{AllocError, Global};
 
 /// Number `i` of the normal form of the sum of the `block`'s values times the monomials of degree `s` at `places`.
@@ -70,7 +70,7 @@ fn find_places(
     let rank = label.rank();
     let leading = label.leading() - 1;
     let raised = degree + blocks::degree_of(m);
-    for j in 0..pure::count_without(rank, degree) {
+    for j in 0..blocks::count(rank - 1, degree) {
         let e = pure::monomial_without(rank, leading, degree, j);
         let product = monomials::joined(m, &e);
         places.push(monomials::place_of(rank, raised, &product))?;
@@ -107,13 +107,13 @@ fn push_multiple<F: Field>(
 {
     let raised = degree + blocks::degree_of(m);
     if generator > degree {
-        let zeros = pure::block_length(label.rank(), generator, raised);
-        normal::push_zeros(f, zeros, numbers)?;
+        let zeros = blocks::block_length(label.rank() - 1, generator, raised);
+        normal::push_zeros(f, u64::from(zeros), numbers)?;
         return Ok(());
     }
     find_places(label, degree - generator, m, places)?;
     let s = raised - generator;
-    for i in 0..pure::count_without(label.rank(), s) {
+    for i in 0..blocks::count(label.rank() - 1, s) {
         numbers.push(number_at(f, table, s, places, block, i))?;
     }
     Ok(())
@@ -150,7 +150,7 @@ pub(crate) fn act_by_table<F: Field>(
     let mut numbers = Vec::new(alloc);
     let mut start = 0;
     for g in &over.free.degrees {
-        let end = start + pure::block_length(over.free.rank, *g, e.degree) as usize;
+        let end = start + blocks::block_length(over.free.rank - 1, *g, e.degree) as usize;
         let block = &e.numbers[start..end];
         push_multiple(
             f,
@@ -226,11 +226,11 @@ impl<F: Field> GradedModule<F> for TabledQuotient<'_> {
     }
 
     fn add_in(&self, f: &F, into: &mut Coordinates<F>, other: &Coordinates<F>) {
-        into.add_in(f, other);
+        sums::add_coefficients(f, &mut into.numbers, &other.numbers);
     }
 
     fn scale_in(&self, f: &F, into: &mut Coordinates<F>, c: F::E) {
-        into.scale_in(f, c);
+        sums::scale_coefficients(f, &mut into.numbers, c);
     }
 
     fn act(

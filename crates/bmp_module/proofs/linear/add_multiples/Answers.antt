@@ -9,7 +9,6 @@ use Rattle.bmp_module.proofs.linear.add_multiples.Goals as goal
 
 pub returns-then-generator-degree-clause-added : goal.returns-then-generator-degree-clause-added
 returns-then-generator-degree-clause-added g c = λ j l.
-    let d = g.N.GradedModule.degree c.args.into.now c.args.total.now in
     let before : g.N.GradedModule.degree c.args.into.now c.args.total.now < c.args.generator = omega (arith, c.degree-degree.ensures, c.if-generator-degree.true) in
     none_added (g.F.Field.size c.args.f.now) (g.N.GradedModule.coordinate c.args.into.now c.args.f.now c.args.total.now j) _
     (multiples_none c.args.rank (g.N.GradedModule.graded c.args.into.now) c.args.generator (g.N.GradedModule.coordinate c.args.into.now c.args.f.now c.args.image.now) (g.N.GradedModule.degree c.args.into.now c.args.total.now) (coefficient (g.F.Field.num c.args.f.now) c.args.block.now) j before)

@@ -23,16 +23,14 @@ loop-i-init g c = appended_none (g.F.Field.is_value c.args.f.now) (g.F.Field.num
 pub place_of-requires-clause-monomial : goal.place_of-requires-clause-monomial
 place_of-requires-clause-monomial g c =
     let at : c.leading-leading.result - 1 ≡ c.args.label.now.leading = omega (arith, c.leading-leading.ensures.leading) in
-    let inside : c.loop-i.i < count (c.rank-rank.result - 1) c.args.degree = omega (arith, c.loop-i-test.true, c.count_without-i-end.ensures.number) in
+    let inside : c.loop-i.i < count (c.rank-rank.result - 1) c.args.degree = omega (arith, c.loop-i-test.true, c.count-i-end.ensures.number) in
     rw c.rank-rank.ensures ((pure_is c.args.label.now.rank c.rank-rank.result c.args.label.now.leading _ c.args.degree c.loop-i.i c.monomial_without-e.result c.rank-rank.ensures at c.args.label.now.leads.here c.args.label.now.leads.rank inside c.monomial_without-e.ensures).0)
 
 pub loop-i-preserved : goal.loop-i-preserved
 loop-i-preserved g c =
-    let p = g.F.Field.size c.args.f.now in
     let num = g.F.Field.num c.args.f.now in
-    let reduced = c.reduce_coefficients.new.coefficients in
     let at : c.leading-leading.result - 1 ≡ c.args.label.now.leading = omega (arith, c.leading-leading.ensures.leading) in
-    let inside : c.loop-i.i < count (c.rank-rank.result - 1) c.args.degree = omega (arith, c.loop-i-test.true, c.count_without-i-end.ensures.number) in
+    let inside : c.loop-i.i < count (c.rank-rank.result - 1) c.args.degree = omega (arith, c.loop-i-test.true, c.count-i-end.ensures.number) in
     let pure = pure_is c.args.label.now.rank c.rank-rank.result c.args.label.now.leading _ c.args.degree c.loop-i.i c.monomial_without-e.result c.rank-rank.ensures at c.args.label.now.leads.here c.args.label.now.leads.rank inside c.monomial_without-e.ensures in
     let below : c.place_of.result < length c.reduce_coefficients.new.coefficients = search rules in
     let read = All-get_or (g.F.Field.is_value c.args.f.now) c.reduce_coefficients.new.coefficients c.place_of.result c.index-coefficients-place_of.result below c.reduce_coefficients.ensures.values in
@@ -47,6 +45,6 @@ loop-i-preserved g c =
 
 pub returns : goal.returns
 returns g c =
-    let last : c.loop-i.i ≡ c.count_without-i-end.result = omega (arith, c.loop-i.auto.i-end, c.loop-i-test.false) in
-    let all : c.loop-i.i ≡ count (c.args.label.now.rank - 1) c.args.degree = last ∙ c.count_without-i-end.ensures.number ∙ ap (λ r. count (r - 1) c.args.degree) c.rank-rank.ensures in
+    let last : c.loop-i.i ≡ c.count-i-end.result = omega (arith, c.loop-i.auto.i-end, c.loop-i-test.false) in
+    let all : c.loop-i.i ≡ count (c.args.label.now.rank - 1) c.args.degree = last ∙ c.count-i-end.ensures.number ∙ ap (λ r. count (r - 1) c.args.degree) c.rank-rank.ensures in
     appended_as (g.F.Field.is_value c.args.f.now) (g.F.Field.num c.args.f.now) c.args.numbers.now.items c.loop-i.numbers.items c.loop-i.i (count (c.args.label.now.rank - 1) c.args.degree) _ _ all (λ j l. refl) c.loop-i.invariant

@@ -1,8 +1,0 @@
-use Rattle.std.proofs.Common.{[]}
-use Rattle.bmp_math.specs.Vectors.{unit}
-use Rattle.bmp_module.specs.Appended.{IsAppended}
-use Rattle.bmp_module.proofs.normal_table.monomial.Given as goal
-
--- the coefficients so far
-abbrev pub invariant-loop-i : goal.invariant-loop-i
-invariant-loop-i g l = IsAppended (g.F.Field.is_value l.fn.f) (g.F.Field.num l.fn.f) [] l.coefficients.items l.i (unit l.fn.t)
