@@ -81,7 +81,7 @@ module _ (G : Graph) (D : ℕ) where
 
   module _ (e : ℕ) (x : Label) (prime : prime_of x ≡ G.prime) (rank : rank_of x ≡ G.rank) (lead : leading_of x ≡ leading G e) (coordinates : coordinate_of x ≡ label G e) (tables : List NormalTable) (numbers : List ℕ) (k : ℕ) (h : IsTabled G D e tables numbers) where
     table_by : (t : NormalTable) → IsBy t x → degrees_of t ≡ D + 1 → IsTableOf G D e t
-    table_by t by degrees = record { prime = by.prime ∙ prime; rank = by.rank ∙ rank; leading = by.leading ∙ lead; coordinates = by.coordinates ∙ coordinates; degrees = degrees }
+    table_by t by degrees = record { prime = ap prime_of by ∙ prime; rank = ap rank_of by ∙ rank; leading = ap leading_of by ∙ lead; coordinates = ap coordinate_of by ∙ coordinates; degrees = degrees }
 
     -- a table that was there
     pub tabled_found : k < length tables → ((t : NormalTable) → k < length tables → IsBy (get_or tables k t) x) → IsTabled G D (e + 1) tables (numbers ++ k ∷ [])
@@ -94,10 +94,9 @@ module _ (G : Graph) (D : ℕ) where
     -- a table that was made
     pub tabled_made : (u : NormalTable) → k ≡ length tables → label_of u ≡ x → degrees_of u ≡ D + 1 → ((i : ℕ) (t : NormalTable) → i < k → IsBy (get_or tables i t) x → ⊥) → IsTabled G D (e + 1) (tables ++ u ∷ []) (numbers ++ k ∷ [])
     tabled_made u last is degrees new =
-        let by : IsBy u x = record { prime = ap prime_of is; rank = ap rank_of is; leading = ap leading_of is; coordinates = ap coordinate_of is } in
         let table : HasTable G D (tables ++ u ∷ []) k e = record {
           number = omega (arith, last, length_more tables u);
-          is = λ t. subst (IsTableOf G D e) (sym (get_or_push tables u t k (sym last))) (table_by u by degrees);
+          is = λ t. subst (IsTableOf G D e) (sym (get_or_push tables u t k (sym last))) (table_by u is degrees);
         } in
         record {
           each = tables_more e k tables (tables ++ u ∷ []) numbers h.each (extends_pushed tables u) table;

@@ -3,6 +3,7 @@ pub mod ExtensionLemmas
 pub mod CoordinateLemmas
 pub mod StalkPlaces
 pub mod LabelTableLemmas
+pub mod SharedValues
 pub mod ShiftLaws
 pub mod FactorLaws
 pub mod ElementLaws
@@ -26,7 +27,7 @@ pub mod StalkTableLemmas
 pub mod RuleLemmas
 pub mod SameAbove
 pub mod NewStalks
-pub mod PoppedStalks
+pub mod FirstStalks
 pub mod NewMaps
 pub mod BoundaryWrites
 pub mod BoundaryRowLemmas
@@ -37,3 +38,4 @@ pub mod ModuleLemmas
 pub mod EdgeMatrices
 pub mod EdgeColumns
 pub mod EdgeImages
+pub mod OpeningLemmas

@@ -29,9 +29,10 @@ use Rattle.bmp_sheaf.specs.EdgeMaps.{LiftsFit, lift_by, lower_map}
 use Rattle.bmp_sheaf.specs.States.{Stalk, SheafState, stalk_of, next_vertex, with_stalk, sheaf_of}
 use Rattle.bmp_sheaf.specs.StalkFaults.{IsStalk}
 use Rattle.bmp_sheaf.specs.StalkTables.{StalkTable, AreMapsUp, IsStalkTable, stalk_in, map_place}
+use Rattle.bmp_sheaf.specs.UpperTables.{AreUppers}
 use Rattle.bmp_sheaf.proofs.UpEdges.{first_edge_is, up_count_is}
 use Rattle.bmp_sheaf.proofs.StalkTableLemmas.{lift_fits}
-use Rattle.bmp_sheaf.proofs.NewStalks.{stalk_new, degrees_kept, stalk_still}
+use Rattle.bmp_sheaf.proofs.NewStalks.{stalk_new, degrees_kept, stalk_still, uppers_still}
 
 -- a map from a free module is known by the images of its generators
 extension_images : (r : ℕ) (degrees : List ℕ) (images others : ℕ → Element) (d : ℕ) → ((g : ℕ) → g < length degrees → images g ≡ others g) → extension r degrees images d ≡ extension r degrees others d
@@ -198,11 +199,12 @@ module _ {F : Type 0} (s : SheafState F) (left : length s.stalks < vertex_count 
           subst (FitsBelow (get_or own g [])) room (subst (λ v. FitsBelow v (stalk_count s.graph.rank (stalk_of s (upper s.graph e)).degrees (slice_index degrees g))) read (lift_fits s x degrees lifts stalk e k g at generator))
 
 -- a table of the stalk that comes
-pub new_table : {F : Type 0} (s : SheafState F) (left : length s.stalks < vertex_count s.graph) (is : IsGraph s.graph) (x : ℕ) (t : StalkTable) → x ≡ next_vertex s → t.rank ≡ s.graph.rank → length t.degrees < 2 ^ 32
+pub new_table : {F : Type 0} {s : SheafState F} (left : length s.stalks < vertex_count s.graph) (is : IsGraph s.graph) {x : ℕ}
+    (next : x ≡ next_vertex s) (t : StalkTable) → t.rank ≡ s.graph.rank → length t.degrees < 2 ^ 32
     → IsStalk s x t.degrees t.lifts → All (λ v. ValuesBelow v s.graph.prime) t.lifts
     → AreMapsUp (with_stalk s (stalk_in t)) x (lower_matrix s.graph (sheaf_of (with_stalk s (stalk_in t)))) t.lower
-    → IsStalkTable (with_stalk s (stalk_in t)) x t
-new_table s left is x t next rank few stalk values lower_maps =
+    → AreUppers s x t.uppers → IsStalkTable (with_stalk s (stalk_in t)) x t
+new_table {s = s} left is {x} next t rank few stalk values lower_maps uppers =
     let here : stalk_of (with_stalk s (stalk_in t)) x ≡ stalk_in t = stalk_new s (stalk_in t) left x next in
     let at_least : next_vertex s ≤ x = omega (arith, next) in
     record {
@@ -213,4 +215,5 @@ new_table s left is x t next rank few stalk values lower_maps =
       stalk = stalk_still s (stalk_in t) left is x at_least t.degrees t.lifts stalk;
       values = values;
       lower_maps = lower_maps;
+      uppers = uppers_still s (stalk_in t) left is x at_least t.uppers uppers;
     }

@@ -48,10 +48,11 @@ module _ (G : Graph) (is : IsGraph G) (x from to : ℕ) (range : IsUpRange G x f
   pub is_edge : from + i / n < edge_count G
   is_edge = omega (arith, edge_number_below, range.within)
 
+  pub starts_at : lower G (from + i / n) ≡ x
+  starts_at = range.inside (from + i / n) (omega arith) edge_number_below
+
   pub leads_up : (x < upper G (from + i / n)) × (upper G (from + i / n) < vertex_count G)
-  leads_up =
-      let starts : lower G (from + i / n) ≡ x = range.inside (from + i / n) (omega arith) edge_number_below in
-      (omega (arith, edge_rises G is (from + i / n) is_edge, starts), (is.ends (from + i / n) is_edge).1)
+  leads_up = (omega (arith, edge_rises G is (from + i / n) is_edge, starts_at), (is.ends (from + i / n) is_edge).1)
 
   pub edge_number_is : from + i / n ≡ first_edge G x + i / n
   edge_number_is = ap (λ z. z + i / n) (sym (first_edge_is G x from to range))

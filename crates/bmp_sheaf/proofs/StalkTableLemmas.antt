@@ -1,23 +1,26 @@
 -- What is read from the table of a stalk.
-use Rattle.std.proofs.Common.{◌≡◌, ℕ, ◌+◌, ◌-◌, ◌*◌, ◌/◌, ◌%◌, ◌<◌, ◌≤◌, List, [], length, refl, sym, ap, ap₂, subst, ◌∙◌, arith, get_or}
+use Rattle.std.proofs.Common.{◌≡◌, ℕ, ◌+◌, ◌-◌, ◌*◌, ◌/◌, ◌%◌, ◌<◌, ◌≤◌, List, [], length, map, sym, ap, ap₂, subst, ◌∙◌, arith, get_or}
 use Rattle.std.specs.Prelude.{slice_index, slice_index_or}
-use Rattle.std.proofs.lemmas.List.{get_or_read, get_or_default}
+use Rattle.std.specs.Arc.{arc_value}
+use Rattle.std.specs.declared.sync.Arc.{Arc}
+use Rattle.std.proofs.lemmas.List.{get_or_read, length-map}
 use Rattle.std.proofs.Math.Nat.{mul-le-mul_right}
 use Rattle.std.proofs.lemmas.Nat.{div-mul-add, mod-mul-add, mul-add-lt}
 use Rattle.bmp_math.specs.Matrices.{NumbersBelow, SameMatrix}
 use Rattle.bmp_linear.specs.declared.vector.Entry.{Entry}
 use Rattle.bmp_linear.specs.SparseVectors.{FitsBelow, ValuesBelow}
 use Rattle.bmp_linear.specs.RowTables.{EntryTable, matrix_of_entries}
-use Rattle.bmp_graph.specs.Graph.{vertex_count, edge_count, lower, upper}
+use Rattle.bmp_graph.specs.Graph.{edge_count, lower, upper}
 use Rattle.bmp_sheaf.specs.Fields.{IsOverField}
 use Rattle.bmp_sheaf.specs.Coordinates.{stalk_count}
 use Rattle.bmp_sheaf.specs.Numbers.{lower_matrix, upper_matrix}
 use Rattle.bmp_sheaf.specs.Written.{first_edge, up_count, IsUpPlace, lift_place}
-use Rattle.bmp_sheaf.specs.States.{SheafState, stalk_of, IsThere, sheaf_of}
+use Rattle.bmp_sheaf.specs.States.{SheafState, stalk_of, sheaf_of}
 use Rattle.bmp_sheaf.specs.StalkFaults.{lift_room, IsStalk}
-use Rattle.bmp_sheaf.specs.StalkTables.{StalkTable, no_table, IsStalkTable, map_place, IsKept}
-use Rattle.bmp_sheaf.specs.UpperTables.{UpperTable, upper_map_of, IsUpperTable, IsEdgeModule, HasUpper, AreUppers}
-use Rattle.bmp_sheaf.specs.declared.label_tables.LabelTables.{LabelTables}
+use Rattle.bmp_sheaf.specs.StalkTables.{StalkTable, IsStalkTable, map_place}
+use Rattle.bmp_sheaf.specs.UpperTables.{UpperTable, upper_map_of, IsUpperTable, IsEdgeModule, IsUpperOf, AreUppers}
+use Rattle.bmp_sheaf.proofs.SharedValues.{value_read}
+use Rattle.bmp_sheaf.proofs.UpEdges.{GoesUp}
 use Rattle.bmp_sheaf.proofs.UpperTableLemmas.{upper_map_is}
 use Rattle.bmp_math.proofs.SameMatrices.{numbers_below_same}
 use Rattle.bmp_sheaf.proofs.EdgeMaps.{lower_numbers_below, upper_numbers_below}
@@ -84,21 +87,16 @@ module _ {F : Type 0} (s : SheafState F) (x : ℕ) (t : StalkTable) (is : IsStal
           (subst (λ y. FitsBelow (slice_index_or t.lifts (k * length t.degrees + g) []) (stalk_count s.graph.rank (stalk_of s (upper s.graph e)).degrees (slice_index y g))) degrees_are
           (lift_fits s x t.degrees t.lifts is.stalk e k g here is_generator))
 
--- the tables of upper maps, where the table u is read at the number that stands at the place k for the edge e
-module _ {F : Type 0} (p : ℕ) (s : SheafState F) (labels : LabelTables) (us : List UpperTable) (ts : List StalkTable) (h : IsKept p s labels us ts) (e : ℕ) (below : e < edge_count s.graph) (there : IsThere s (lower s.graph e)) where
-  pub upper_number : (y k : ℕ) (t : StalkTable) → y ≡ lower s.graph e → IsUpPlace s.graph (lower s.graph e) e k → t ≡ get_or ts (vertex_count s.graph - 1 - y) t → (k < length t.uppers) × HasUpper s us e (get_or t.uppers k 0)
-  upper_number y k t starts at read =
-      let inside : vertex_count s.graph - 1 - lower s.graph e < length ts = omega (arith, there.0, there.1, h.stalks.as_many) in
-      let own : get_or ts (vertex_count s.graph - 1 - lower s.graph e) no_table ≡ t =
-      sym (read ∙ ap (λ z. get_or ts (vertex_count s.graph - 1 - z) t) starts ∙ get_or_default ts (vertex_count s.graph - 1 - lower s.graph e) t no_table inside) in
-      let uppers : AreUppers s us (lower s.graph e) t.uppers = subst (λ (u : StalkTable). AreUppers s us (lower s.graph e) u.uppers) own (h.stalks.uppers (lower s.graph e) there) in
-      (omega (arith, uppers.counted, at.within), subst (λ z. HasUpper s us e (get_or t.uppers z 0)) (sym at.place) (uppers.each e below refl))
+-- the table of a map from an upper end, as it is read
+module _ {F Z : Type 0} {s : SheafState F} {x : ℕ} (us : List (Arc UpperTable Z)) (h : AreUppers s x (map arc_value us)) {e k : ℕ} (up : GoesUp s.graph x e k) where
+  pub upper_inside : k < length us
+  upper_inside = omega (arith, h.counted, length-map us arc_value, up.at.within)
 
-  pub upper_read : (n : ℕ) (u : UpperTable) → HasUpper s us e n → u ≡ get_or us n u → IsEdgeModule s e u.quotient × IsUpperTable s.degree u
-  upper_read n u has read = (
-    subst (λ (v : UpperTable). IsEdgeModule s e v.quotient) (sym read) (has.is u),
-    subst (IsUpperTable s.degree) (sym read) (h.upper_maps n u has.number),
-  )
+  pub upper_read : (u : Arc UpperTable Z) → u ≡ get_or us k u → IsUpperOf s e (arc_value u)
+  upper_read u read =
+      let own : get_or (map arc_value us) (e - first_edge s.graph x) (arc_value u) ≡ arc_value u =
+      ap (λ z. get_or (map arc_value us) z (arc_value u)) (sym up.at.place) ∙ sym (value_read us k u upper_inside read (arc_value u)) in
+      subst (IsUpperOf s e) own (h.each e (arc_value u) up.is_edge up.starts)
 
 -- the rows in a table of upper maps
 module _ {F : Type 0} (s : SheafState F) (e : ℕ) (below : e < edge_count s.graph) (d : ℕ) (small : d ≤ s.degree) (u : UpperTable) (is : IsUpperTable s.degree u) (module_is : IsEdgeModule s e u.quotient) (rows : EntryTable) (read : rows ≡ get_or u.rows d rows) where

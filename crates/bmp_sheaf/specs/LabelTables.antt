@@ -1,6 +1,5 @@
 -- The tables of normal forms for the labels of a graph. In the order to read:
---   SameLabel x y                x has the prime, the rank and the coordinates of y
---   IsBy t x                     so has the label of t those of x
+--   IsBy t x                     x is the label of t
 --   IsTableOf G D e t            t is by the label of the edge e, for the degrees from 0 to D
 --   HasTable G D tables k e      one of the tables, the one numbered k, is that of the edge e
 --   HasTables G D n tables numbers     each of the first n edges has its table, at its number
@@ -13,14 +12,8 @@ use Rattle.bmp_module.specs.declared.normal_table.NormalTable.{NormalTable}
 use Rattle.bmp_sheaf.specs.Coordinates.{leading}
 use Rattle.bmp_module.specs.NormalTables.{label_of, degrees_of}
 
-pub record SameLabel (x y : Label) : Type 0 where
-  pub prime : prime_of x ≡ prime_of y
-  pub rank : rank_of x ≡ rank_of y
-  pub leading : leading_of x ≡ leading_of y
-  pub coordinates : coordinate_of x ≡ coordinate_of y
-
 abbrev pub IsBy : NormalTable → Label → Type 0
-IsBy t x = SameLabel (label_of t) x
+IsBy t x = label_of t ≡ x
 
 pub record IsTableOf (G : Graph) (D e : ℕ) (t : NormalTable) : Type 0 where
   pub prime : prime_of (label_of t) ≡ G.prime

@@ -8,6 +8,7 @@ pub mod Written
 pub mod LabelTables
 pub mod EdgeMaps
 pub mod States
+pub mod Openings
 pub mod StalkFaults
 pub mod UpperTables
 pub mod StalkTables

@@ -1,14 +1,15 @@
 -- What is kept of a sheaf in memory, and what holds of it. In the order to read:
 --   StalkTable               the stalk at a vertex with, by edge going up from it and then by degree, the rows of the map to the edge's
---                            module, and by edge the number of the table that is kept of the module and of the map from the upper end
+--                            module, and by edge the table of the module and of the map from the upper end
 --   map_place G D e d        where the rows of the edge e in degree d stand, degrees being at most D
 --   AreMapsUp s x M ts       the rows of the matrices M d e, for the edges e going up from x, by edge and then by degree d
 --   IsStalkTable s x t       the table is that of the stalk at x
---   AreTables s us ts        each of the tables is that of its vertex, the greatest first, and its numbers are of the tables us
+--   AreTables s ts           each of the tables is that of its vertex, the greatest first
 --   stalk_in t               the stalk in a table
---   IsKept p s labels us ts  s is kept in these tables ts, in those of normal forms by its labels, and in the tables us of the maps from
---                            upper ends, over a field of p elements
-use Rattle.std.specs.Prelude.{◌≡◌, ℕ, ◌+◌, ◌-◌, ◌*◌, ◌^◌, ◌<◌, ◌≤◌, List, [], length, slice_index_or}
+--   state_of G f D ts        the sheaf with the stalks in these tables
+--   IsKept p s labels us ts  s is kept in these tables ts and in those of normal forms by its labels, over a field of p elements; us are
+--                            further tables of maps from upper ends
+use Rattle.std.specs.Prelude.{◌≡◌, ℕ, ◌+◌, ◌-◌, ◌*◌, ◌^◌, ◌<◌, ◌≤◌, List, [], length, map, slice_index_or}
 use Rattle.std.specs.List.{All}
 use Rattle.bmp_math.specs.Matrices.{Matrix, SameMatrix}
 use Rattle.bmp_linear.specs.declared.vector.Entry.{Entry}
@@ -28,7 +29,7 @@ pub record StalkTable : Type 0 where
   pub degrees : List ℕ
   pub lifts : List (List Entry)
   pub lower : List EntryTable
-  pub uppers : List ℕ
+  pub uppers : List UpperTable
 
 abbrev pub no_table : StalkTable
 no_table = record { rank = 0; degrees = []; lifts = []; lower = []; uppers = [] }
@@ -49,15 +50,18 @@ pub record IsStalkTable {F : Type 0} (s : SheafState F) (x : ℕ) (t : StalkTabl
   pub stalk : IsStalk s x t.degrees t.lifts
   pub values : All (λ v. ValuesBelow v s.graph.prime) t.lifts
   pub lower_maps : AreMapsUp s x (lower_matrix s.graph (sheaf_of s)) t.lower
+  pub uppers : AreUppers s x t.uppers
 
-pub record AreTables {F : Type 0} (s : SheafState F) (us : List UpperTable) (ts : List StalkTable) : Type 0 where
+pub record AreTables {F : Type 0} (s : SheafState F) (ts : List StalkTable) : Type 0 where
   pub as_many : length ts ≡ length s.stalks
   pub few : length ts ≤ vertex_count s.graph
   pub each : (x : ℕ) → IsThere s x → IsStalkTable s x (slice_index_or ts (vertex_count s.graph - 1 - x) no_table)
-  pub uppers : (x : ℕ) → IsThere s x → AreUppers s us x (slice_index_or ts (vertex_count s.graph - 1 - x) no_table).uppers
 
 abbrev pub stalk_in : StalkTable → Stalk
 stalk_in t = record { degrees = t.degrees; lifts = t.lifts }
+
+abbrev pub state_of : {F : Type 0} → Graph → F → ℕ → List StalkTable → SheafState F
+state_of G f D ts = record { graph = G; field = f; degree = D; stalks = map stalk_in ts }
 
 -- what holds of a sheaf in memory over a field of p elements, with tables of normal forms, of maps from upper ends and of stalks
 pub record IsKept {F : Type 0} (p : ℕ) (s : SheafState F) (labels : LabelTables) (us : List UpperTable) (ts : List StalkTable) : Type 0 where
@@ -65,4 +69,4 @@ pub record IsKept {F : Type 0} (p : ℕ) (s : SheafState F) (labels : LabelTable
   pub state : IsState s
   pub normal_forms : HasTables s.graph s.degree (edge_count s.graph) labels.tables.items labels.numbers.items
   pub upper_maps : AreUpperTables s.degree us
-  pub stalks : AreTables s us ts
+  pub stalks : AreTables s ts

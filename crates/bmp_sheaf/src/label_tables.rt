@@ -2,7 +2,7 @@
 ghost use Rattle.std.specs.Prelude.{◌≡◌, ◌↔◌, ℕ, ◌<◌, ◌≤◌, ◌+◌, IfOk, IsTrue, length, slice_index, slice_index_or};
 ghost use Rattle.bmp_graph.specs.Graph.{edge_count};
 ghost use Rattle.bmp_module.specs.declared.normal_table.NormalTable.{NormalTable};
-ghost use Rattle.bmp_sheaf.specs.LabelTables.{SameLabel, IsBy, HasTables, AreByDifferentLabels};
+ghost use Rattle.bmp_sheaf.specs.LabelTables.{IsBy, HasTables, AreByDifferentLabels};
 
 use bmp_field::Field;
 use bmp_graph::MomentGraph;
@@ -12,12 +12,12 @@ use std::alloc::{AllocError, Global};
 
 /// Whether the labels are equal.
 pub(crate) fn same_label(a: &Label, b: &Label) -> bool
-    ensures { IsTrue result ↔ SameLabel a.now b.now }
+    ensures { IsTrue result ↔ (a.now ≡ b.now) }
 {
     *a == *b
 }
 
-/// Whether the table is by an equal label.
+/// Whether the table is by the label.
 fn is_by(table: &NormalTable, label: &Label) -> bool
     ensures { IsTrue result ↔ IsBy table.now label.now }
 {

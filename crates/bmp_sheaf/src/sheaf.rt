@@ -1,5 +1,6 @@
 //! Sheaves on a moment graph, in memory.
 ghost use Rattle.std.specs.Prelude.{◌≡◌, ℕ, ◌+◌, ◌-◌, ◌*◌, ◌^◌, ◌<◌, ◌≤◌, All, List, [], ◌∷◌, ◌++◌, length, slice_index, slice_index_or, IfOk, OnOk, OnErr, IfErr};
+ghost use Rattle.std.specs.Arc.{arc_value};
 ghost use Rattle.bmp_math.specs.Matrices.{Matrix, NumbersBelow, SameMatrix};
 ghost use Rattle.bmp_linear.specs.SparseVectors.{FitsBelow, ValuesBelow, number_at};
 ghost use Rattle.bmp_linear.specs.RowTables.{EntryTable, matrix_of_entries};
@@ -14,7 +15,7 @@ ghost use Rattle.bmp_sheaf.specs.ModuleMaps.{stalk_module, edge_module, from_low
 ghost use Rattle.bmp_sheaf.specs.States.{Stalk, SheafState, IsState, stalk_of, IsThere, next_vertex, with_stalk, sheaf_of};
 ghost use Rattle.bmp_sheaf.specs.StalkFaults.{IsStalk, BreaksFirst};
 ghost use Rattle.bmp_sheaf.specs.StalkTables.{IsStalkTable, map_place};
-ghost use Rattle.bmp_sheaf.specs.UpperTables.{IsEdgeModule, IsUpperTable};
+ghost use Rattle.bmp_sheaf.specs.UpperTables.{IsEdgeModule, IsUpperOf, AreUpperTables};
 
 use crate::fault::SheafFault;
 use crate::label_tables::LabelTables;
@@ -26,30 +27,38 @@ use bmp_linear::{Rows, SparseRows, Vector};
 use bmp_module::{Free, GradedModule, NormalTable, Quotient};
 use std::alloc::{AllocError, Global};
 use std::marker::Model;
+use std::sync::Arc;
 
-/// A sheaf on a moment graph, up to a degree. Its stalks come one by one, from the greatest vertex down.
+/// What doesn't change while stalks come.
 #[derive(Drop)]
-pub struct Sheaf<F: Field> {
+pub(crate) struct Setting<F: Field> {
     graph: MomentGraph,
     field: F,
     degree: u32,
     tables: LabelTables,
-    uppers: UpperMaps<F>,
-    stalks: Vec<StalkPart<F>>,
+}
+
+/// A sheaf on a moment graph, up to a degree. Its stalks come one by one, from the greatest vertex down. Sheaves share what
+/// they have in common.
+#[derive(Drop)]
+pub struct Sheaf<F: Field> {
+    pub(crate) setting: Arc<Setting<F>, Global>,
+    pub(crate) uppers: UpperMaps<F>,
+    pub(crate) stalks: Vec<Arc<StalkPart<F>, Global>>,
 }
 
 impl<F: Field> Model for Sheaf<F> {
     ghost use Rattle.std.specs.Prelude.{map};
+    ghost use Rattle.std.specs.Arc.{arc_value};
     ghost use Rattle.bmp_sheaf.specs.States.{SheafState};
-    ghost use Rattle.bmp_sheaf.specs.StalkTables.{stalk_in, IsKept};
+    ghost use Rattle.bmp_sheaf.specs.StalkTables.{state_of, IsKept};
 
     ghost Value = { SheafState F };
 
-    ghost view = { λ s. record { graph = s.graph; field = s.field; degree = s.degree; stalks = map stalk_in s.stalks.items } };
+    ghost view = { λ s. let c = arc_value s.setting in state_of c.graph c.field c.degree (map arc_value s.stalks.items) };
 
-    ghost invariant = { λ s. IsKept (F.size s.field)
-        (record { graph = s.graph; field = s.field; degree = s.degree; stalks = map stalk_in s.stalks.items })
-        s.tables s.uppers.maps.items s.stalks.items };
+    ghost invariant = { λ s. let c = arc_value s.setting in let ts = map arc_value s.stalks.items in
+        IsKept (F.size c.field) (state_of c.graph c.field c.degree ts) c.tables s.uppers ts };
 }
 
 impl<F: Field + Drop> Sheaf<F> {
@@ -66,12 +75,14 @@ impl<F: Field + Drop> Sheaf<F> {
     {
         let _rank = graph.rank();
         let stalks = Vec::with_capacity(alloc, graph.vertices() as usize)?;
-        let tables = LabelTables::new(alloc, &f, graph, degree)?;
-        Ok(Sheaf {
+        let setting = Setting {
             graph: graph.copy(alloc)?,
+            tables: LabelTables::new(alloc, &f, graph, degree)?,
             field: f,
             degree,
-            tables,
+        };
+        Ok(Sheaf {
+            setting: Arc::new(alloc, setting)?,
             uppers: UpperMaps::new(alloc),
             stalks,
         })
@@ -91,17 +102,11 @@ impl<F: Field> Sheaf<F> {
         ensures fault { IfErr result (BreaksFirst self.old (next_vertex self.old) degrees.now lifts.now) }
         ensures err { OnErr result (self.new ≡ self.old) }
     {
-        let x = self.graph.vertices() - 1 - self.pushed();
+        let x = self.graph().vertices() - 1 - self.pushed();
         self.check(x, degrees, lifts)?;
-        let uppers = self.uppers.keep_up(
-            &self.field,
-            &self.graph,
-            self.degree,
-            &self.tables,
-            &self.stalks,
-        )?;
-        let part = self.new_part(x, degrees, lifts, uppers)?;
-        self.stalks.push(part)?;
+        let part = self.new_part(x, degrees, lifts)?;
+        let part = Arc::new(self.allocator(), part)?;
+        self.add(part)?;
         Ok(())
     }
 
@@ -126,7 +131,7 @@ impl<F: Field> Sheaf<F> {
         ensures graph { result.now ≡ self.now.graph }
         ensures state { IsState self.now }
     {
-        &self.graph
+        &self.setting.graph
     }
 
     /// The field of the numbers.
@@ -134,7 +139,7 @@ impl<F: Field> Sheaf<F> {
         ensures field { result.now ≡ self.now.field }
         ensures size { F.size self.now.field ≡ self.now.graph.prime }
     {
-        &self.field
+        &self.setting.field
     }
 
     /// The degree up to which there is a sheaf.
@@ -142,7 +147,7 @@ impl<F: Field> Sheaf<F> {
         ensures degree { result ≡ self.now.degree }
         ensures bound { result ≤ 6 }
     {
-        self.degree
+        self.setting.degree
     }
 
     /// What takes memory for the sheaf.
@@ -155,7 +160,23 @@ impl<F: Field> Sheaf<F> {
         requires { e < edge_count self.now.graph }
         ensures { IsTableOf self.now.graph self.now.degree e result.now }
     {
-        self.tables.table(e)
+        self.setting.tables.table(e)
+    }
+
+    /// The maps from upper ends that are kept so that they are found again.
+    pub(crate) fn kept_uppers(&self) -> &UpperMaps<F>
+        ensures { AreUpperTables self.now.degree result.now }
+    {
+        &self.uppers
+    }
+
+    /// An owner of what is kept of the stalk at a vertex.
+    pub(crate) fn shared_part(&self, x: u32) -> &Arc<StalkPart<F>, Global>
+        requires { IsThere self.now x }
+        ensures table { IsStalkTable self.now x (arc_value result.now) }
+        ensures state { IsState self.now }
+    {
+        &self.stalks[(self.graph().vertices() - 1 - x) as usize]
     }
 
     /// What is kept of the stalk at a vertex.
@@ -164,20 +185,18 @@ impl<F: Field> Sheaf<F> {
         ensures table { IsStalkTable self.now x result.now }
         ensures state { IsState self.now }
     {
-        &self.stalks[(self.graph.vertices() - 1 - x) as usize]
+        self.shared_part(x)
     }
 
     /// What is kept of the map from the stalk at the upper end of an edge, with the edge's module.
     fn upper(&self, e: u32) -> &UpperMap<F>
         requires edge { e < edge_count self.now.graph }
         requires there { IsThere self.now (lower self.now.graph e) }
-        ensures module { IsEdgeModule self.now e result.now.quotient }
-        ensures rows { IsUpperTable self.now.degree result.now }
+        ensures upper { IsUpperOf self.now e result.now }
         ensures state { IsState self.now }
     {
-        let x = self.graph.edge(e).lower;
-        let part = &self.stalks[(self.graph.vertices() - 1 - x) as usize];
-        &self.uppers.maps[part.uppers[self.up_place(e) as usize]]
+        let part = self.part(self.graph().edge(e).lower);
+        &part.uppers[self.up_place(e) as usize]
     }
 
     /// The place of an edge among those that go up from its lower end.
@@ -185,7 +204,8 @@ impl<F: Field> Sheaf<F> {
         requires { e < edge_count self.now.graph }
         ensures { IsUpPlace self.now.graph (lower self.now.graph e) e result }
     {
-        let (first, _) = self.graph.up(self.graph.edge(e).lower);
+        let graph = self.graph();
+        let (first, _) = graph.up(graph.edge(e).lower);
         e - first
     }
 
@@ -196,7 +216,7 @@ impl<F: Field> Sheaf<F> {
         ensures place { result ≡ map_place self.now.graph self.now.degree e d }
         ensures within { result < up_count self.now.graph (lower self.now.graph e) * (self.now.degree + 1) }
     {
-        self.up_place(e) as usize * (self.degree as usize + 1) + d as usize
+        self.up_place(e) as usize * (self.degree() as usize + 1) + d as usize
     }
 
     /// The stalk at a vertex.
@@ -235,7 +255,7 @@ impl<F: Field> Sheaf<F> {
             FitsBelow result.now (stalk_count G.rank (s.degrees (upper G e)) (slice_index (s.degrees (lower G e)) g)) }
         ensures values { ValuesBelow result.now self.now.graph.prime }
     {
-        let part = self.part(self.graph.edge(e).lower);
+        let part = self.part(self.graph().edge(e).lower);
         let place = self.up_place(e) as usize * part.module.generators() as usize + g as usize;
         &part.lifts.as_slice()[place]
     }
@@ -252,7 +272,7 @@ impl<F: Field> Sheaf<F> {
         ensures numbers { NumbersBelow self.now.graph.prime (matrix_of_entries result.now) }
         ensures state { IsState self.now }
     {
-        let part = self.part(self.graph.edge(e).lower);
+        let part = self.part(self.graph().edge(e).lower);
         &part.lower[self.map_place(e, d)]
     }
 
@@ -280,7 +300,7 @@ impl<F: Field> Sheaf<F> {
         ensures value { F.is_value self.now.field result }
         ensures number { F.num self.now.field result ≡ lower_number self.now.graph (sheaf_of self.now) d e i j }
     {
-        self.lower_rows(e, d).at(&self.field, i, j)
+        self.lower_rows(e, d).at(self.field(), i, j)
     }
 
     /// Coordinate `i` on an edge, in degree `d`, of the element of its upper end that is 1 at coordinate `j`.
@@ -293,6 +313,6 @@ impl<F: Field> Sheaf<F> {
         ensures value { F.is_value self.now.field result }
         ensures number { F.num self.now.field result ≡ upper_number self.now.graph (sheaf_of self.now) d e i j }
     {
-        self.upper_rows(e, d).at(&self.field, i, j)
+        self.upper_rows(e, d).at(self.field(), i, j)
     }
 }

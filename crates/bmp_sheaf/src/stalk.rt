@@ -1,8 +1,11 @@
 //! One stalk of a sheaf in memory.
+use crate::upper_maps::UpperMap;
 use bmp_field::Field;
 use bmp_linear::{SparseRows, Vectors};
 use bmp_module::Free;
+use std::alloc::Global;
 use std::marker::Model;
+use std::sync::Arc;
 
 /// The stalk at a vertex, its lifts, and what is kept of the edges going up from it.
 #[derive(Drop)]
@@ -12,11 +15,13 @@ pub(crate) struct StalkPart<F: Field> {
     pub(crate) lifts: Vectors,
     /// By edge, and then by degree, the map from this stalk to the edge's module.
     pub(crate) lower: Vec<SparseRows<F>>,
-    /// By edge, the number of what is kept of its module and of the map from its upper end.
-    pub(crate) uppers: Vec<usize>,
+    /// By edge, its module and the map from its upper end.
+    pub(crate) uppers: Vec<Arc<UpperMap<F>, Global>>,
 }
 
 impl<F: Field> Model for StalkPart<F> {
+    ghost use Rattle.std.specs.Prelude.{map};
+    ghost use Rattle.std.specs.Arc.{arc_value};
     ghost use Rattle.bmp_module.specs.FreeModules.{rank_of, degrees_of};
     ghost use Rattle.bmp_sheaf.specs.StalkTables.{StalkTable};
 
@@ -27,6 +32,6 @@ impl<F: Field> Model for StalkPart<F> {
       degrees = degrees_of s.module;
       lifts = s.lifts;
       lower = s.lower.items;
-      uppers = s.uppers.items;
+      uppers = map arc_value s.uppers.items;
     } };
 }

@@ -9,6 +9,7 @@ use bmp_linear::{Entry, Rows, Scratch, Vector};
 use bmp_poly::{Label, LabelFault};
 use bmp_sheaf::{BoundaryRows, Sheaf, SheafFault};
 use std::alloc::{AllocError, Global};
+use std::marker::{Send, Sync};
 use std::process::Abort;
 use std::test::Fail;
 
@@ -191,5 +192,74 @@ fn stalks_that_are_refused(rt: HostRuntime) -> Result<(), Fail> {
         assert_eq!(rt; found, want, "degrees {degrees:?}, lifts {lifts:?}");
     }
     assert_eq!(rt; sheaf.pushed(), 2);
+    Ok(())
+}
+
+/// The numbers of the two maps of an edge in degree `d`, coordinate by coordinate of the edge's module.
+fn numbers_on_edge(
+    rt: &impl Abort,
+    alloc: Global,
+    sheaf: &Sheaf<PrimeField>,
+    e: u32,
+    d: u32,
+) -> Result<Vec<u32>, Fail> {
+    assert!(rt; e < sheaf.graph().edges() && d <= sheaf.degree());
+    let vertices = sheaf.graph().vertices();
+    let lower = sheaf.graph().edge(e).lower;
+    assert!(rt; vertices <= lower + sheaf.pushed());
+    let mut numbers = Vec::new(alloc);
+    for i in 0..sheaf.lower_rows(e, d).rows() {
+        for j in 0..sheaf.lower_rows(e, d).cols() {
+            numbers.push(sheaf.field().num(sheaf.lower_at(e, d, i, j)))?;
+        }
+        for j in 0..sheaf.upper_rows(e, d).cols() {
+            numbers.push(sheaf.field().num(sheaf.upper_at(e, d, i, j)))?;
+        }
+    }
+    Ok(numbers)
+}
+
+/// What goes from one thread to another, and is seen by several.
+fn is_shared<T: Send + Sync>(_value: &T) {}
+
+/// The sheaf of the first stalks, the last of which is taken over.
+fn taken(
+    rt: &impl Abort,
+    whole: &Sheaf<PrimeField>,
+    count: u32,
+) -> Result<Sheaf<PrimeField>, Fail> {
+    assert!(rt; whole.pushed() <= whole.graph().vertices());
+    assert!(rt; 0 < count);
+    assert!(rt; count <= whole.pushed());
+    let mut taken = whole.first(count - 1)?;
+    let last = whole.first(count)?;
+    taken.adopt(&last)?;
+    Ok(taken)
+}
+
+/// The edges whose lower ends are there have the maps that they had.
+#[test]
+fn stalks_that_are_shared(rt: HostRuntime) -> Result<(), Fail> {
+    let alloc = rt.alloc();
+    let sheaf = constant(&rt, alloc)?;
+    is_shared(&sheaf);
+    for (count, edges) in [
+        (1, &[] as &[u32]),
+        (2, &[3]),
+        (3, &[2, 3]),
+        (4, &[0, 1, 2, 3]),
+    ] {
+        assert!(rt; count <= sheaf.pushed());
+        for shared in [sheaf.first(count)?, taken(&rt, &sheaf, count)?] {
+            assert_eq!(rt; shared.pushed(), count);
+            for e in edges {
+                for d in 0..3 {
+                    let want = numbers_on_edge(&rt, alloc, &sheaf, *e, d)?;
+                    let found = numbers_on_edge(&rt, alloc, &shared, *e, d)?;
+                    assert_eq!(rt; found, want, "count {count}, edge {e}, degree {d}");
+                }
+            }
+        }
+    }
     Ok(())
 }

@@ -9,7 +9,7 @@ use Rattle.bmp_sheaf.proofs.EdgeMatrices.{module_kept_is}
 use Rattle.bmp_sheaf.proofs.sheaf.Sheaf.edge_module.Goals as goal
 
 pub returns-clause-module : goal.returns-clause-module
-returns-clause-module g c = subst (λ (u : UpperTable). IsEdgeModule c.args.self.now c.args.e u.quotient) (sym c.behind-self.view_is) c.upper.ensures.module
+returns-clause-module g c = subst (λ (u : UpperTable). IsEdgeModule c.args.self.now c.args.e u.quotient) (sym c.behind-self.view_is) c.upper.ensures.upper.edge
 
 pub returns-clause-graded : goal.returns-clause-graded
 returns-clause-graded g c = module_kept_is c.args.self.now c.args.e c.behind-self.inside.quotient (returns-clause-module g c)

@@ -16,7 +16,7 @@ returns-clause-element g c =
     let v = c.index-as_slice-place.result in
     let t = c.part-part.result.now in
     let place = c.up_place.result * c.generators.result + c.args.g in
-    let starts : c.edge.result.now.lower ≡ lower c.args.self.now.graph c.args.e = rw (← c.self.view_is) c.edge.ensures.lower in
+    let starts : c.edge.result.now.lower ≡ lower c.args.self.now.graph c.args.e = c.edge.ensures.lower ∙ ap (λ G. lower G c.args.e) c.graph.ensures.graph in
     let many : c.generators.result ≡ length t.degrees = rw (← c.part.view_is) c.generators.ensures in
     let read : v ≡ get_or t.lifts place v = c.index-as_slice-place.is ∙ ap (λ xs. get_or xs place v) (c.as_slice.ensures.items ∙ ap (λ t. t.lifts) c.part.view_is) in
     ap element (lift_kept c.args.self.now c.edge.result.now.lower t c.part-part.ensures.table c.args.e c.requires.edge starts c.up_place.result c.args.g c.up_place.ensures c.requires.generator c.generators.result v many read)
@@ -26,7 +26,7 @@ returns-clause-fits g c =
     let v = c.index-as_slice-place.result in
     let t = c.part-part.result.now in
     let place = c.up_place.result * c.generators.result + c.args.g in
-    let starts : c.edge.result.now.lower ≡ lower c.args.self.now.graph c.args.e = rw (← c.self.view_is) c.edge.ensures.lower in
+    let starts : c.edge.result.now.lower ≡ lower c.args.self.now.graph c.args.e = c.edge.ensures.lower ∙ ap (λ G. lower G c.args.e) c.graph.ensures.graph in
     let many : c.generators.result ≡ length t.degrees = rw (← c.part.view_is) c.generators.ensures in
     let read : v ≡ get_or t.lifts place v = c.index-as_slice-place.is ∙ ap (λ xs. get_or xs place v) (c.as_slice.ensures.items ∙ ap (λ t. t.lifts) c.part.view_is) in
     lift_kept_fits c.args.self.now c.edge.result.now.lower t c.part-part.ensures.table c.args.e c.requires.edge starts c.up_place.result c.args.g c.up_place.ensures c.requires.generator c.generators.result v many read
@@ -36,7 +36,7 @@ returns-clause-values g c =
     let v = c.index-as_slice-place.result in
     let t = c.part-part.result.now in
     let place = c.up_place.result * c.generators.result + c.args.g in
-    let starts : c.edge.result.now.lower ≡ lower c.args.self.now.graph c.args.e = rw (← c.self.view_is) c.edge.ensures.lower in
+    let starts : c.edge.result.now.lower ≡ lower c.args.self.now.graph c.args.e = c.edge.ensures.lower ∙ ap (λ G. lower G c.args.e) c.graph.ensures.graph in
     let many : c.generators.result ≡ length t.degrees = rw (← c.part.view_is) c.generators.ensures in
     let read : v ≡ get_or t.lifts place v = c.index-as_slice-place.is ∙ ap (λ xs. get_or xs place v) (c.as_slice.ensures.items ∙ ap (λ t. t.lifts) c.part.view_is) in
     lift_kept_values c.args.self.now c.edge.result.now.lower t c.part-part.ensures.table c.args.e c.requires.edge starts c.up_place.result c.args.g c.up_place.ensures c.requires.generator c.generators.result v many read
