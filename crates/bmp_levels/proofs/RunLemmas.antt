@@ -1,12 +1,17 @@
 -- The run of a vertex, made from covers and a basis.
-use Rattle.std.proofs.Common.{◌≡◌, ℕ, ◌+◌, ◌-◌, ◌*◌, ◌<◌, ◌≤◌, List, length, get_or, leb, ltb, replicate}
-use Rattle.std.proofs.Common.{refl, sym, ap, ◌∙◌, inl, inr, arith}
+use Rattle.std.proofs.Common.{◌≡◌, ℕ, ◌+◌, ◌-◌, ◌*◌, ◌%◌, ◌<◌, ◌≤◌, List, ◌++◌, length, get_or, take, drop, leb, ltb}
+use Rattle.std.proofs.Common.{replicate, refl, sym, ap, ap₂, ◌∙◌, inl, inr, arith}
+use Rattle.std.proofs.Math.Nat.{mod-eq_of_lt}
 use Rattle.std.specs.Prelude.{All}
 use Rattle.std.proofs.lemmas.Bool.{cases_lt, cond-true, cond-false, le-leb, lt-leb, lt-ltb, le-ltb}
-use Rattle.std.proofs.lemmas.List.{get_or-replicate, get_or_past, length-replicate}
+use Rattle.std.proofs.lemmas.List.{get_or-replicate, get_or_past, length-replicate, length-take-le}
+use Rattle.std.proofs.lemmas.List.{get_or-take, get_or-drop, get_or_append_left, get_or-append_right}
+use Rattle.bmp_math.specs.Matrices.{Matrix}
+use Rattle.bmp_field.specs.Runs.{IsMultipleAdded}
 use Rattle.bmp_linear.specs.declared.vector.Entry.{Entry}
 use Rattle.bmp_linear.specs.SparseVectors.{FitsBelow}
 use Rattle.bmp_linear.specs.Evidence.{vector_at}
+use Rattle.bmp_linear.specs.RowChanges.{HoldsNumbers, IsRowAddedTo}
 use Rattle.bmp_levels.specs.Runs.{RunTable, run_value, joined_value, IsRunOf, AreColumnsWritten}
 use Rattle.bmp_levels.proofs.ColumnLemmas.{row_ends}
 use Rattle.bmp_levels.proofs.MemberValues.{vector_past}
@@ -110,3 +115,36 @@ pub basis_clear :
     j < before + length basis → get_or first (c * width + j) 0 ≡ 0
 basis_clear width before covers basis zeros first width_is few clear written c j from below =
     written.others c j (omega (arith, width_is, below)) (inr (omega (arith, few, from))) ∙ clear (c * width + j)
+
+-- the first of the sums got multiples of the numbers, and past these the row is 0
+module _ (p factor c : ℕ) (a : Matrix) (numbers old front : List ℕ) (few : length numbers ≤ a.cols)
+    (holds : HoldsNumbers p a.cols old)
+    (added : IsMultipleAdded p factor numbers (take (length numbers) old) front) where
+  sized : length front ≡ length numbers
+  sized = added.length_is ∙ length-take-le (length numbers) old (omega (arith, few, holds.room))
+
+  -- what stands past the numbers is as before
+  as_before : (j : ℕ) → length numbers ≤ j → get_or (front ++ drop (length numbers) old) j 0 ≡ get_or old j 0
+  as_before j past =
+      let back : length numbers + (j - length numbers) ≡ j = omega arith in
+      get_or-append_right front (drop (length numbers) old) (length numbers) j 0 sized past
+      ∙ get_or-drop (length numbers) old (j - length numbers) 0
+      ∙ ap (λ k. get_or old k 0) back
+
+  pub row_added : ((j : ℕ) → j < a.cols → get_or numbers j 0 ≡ a.entry c j) →
+      IsRowAddedTo p a c factor old (front ++ drop (length numbers) old)
+  row_added row = record {
+    added = λ j l. elim (cases_lt j (length numbers)) [
+      | inl here ↦
+          get_or_append_left front (drop (length numbers) old) 0 j (omega (arith, here, sized))
+          ∙ added.added j (omega (arith, here, sized, added.length_is))
+          ∙ ap₂ (λ s n. (s + factor * n) % p) (get_or-take (length numbers) old j 0 here) (row j l)
+      | inr past ↦
+          let none : a.entry c j ≡ 0 = sym (row j l) ∙ get_or_past numbers j 0 past in
+          let same : get_or old j 0 + factor * 0 ≡ get_or old j 0 = omega arith in
+          as_before j past
+          ∙ sym (mod-eq_of_lt (holds.below j l))
+          ∙ ap (λ s. s % p) (sym same ∙ ap (λ n. get_or old j 0 + factor * n) (sym none))
+    ];
+    others = λ j past. as_before j (omega (arith, past, few));
+  }

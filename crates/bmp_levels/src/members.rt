@@ -6,6 +6,7 @@ ghost use Rattle.bmp_levels.specs.Runs.{run_at, list_of};
 use crate::family::Family;
 use crate::run::Run;
 use crate::sums::add_multiples;
+use bmp_field::Field;
 use bmp_sections::Sections;
 
 /// The first members of a family, as a list of tuples. It keeps none of them.
@@ -64,5 +65,12 @@ impl<'a> Sections for Members<'a> {
 
     fn at(&self, j: u64, y: u32, c: u64) -> u8 {
         self.family.run(y).at(j, c)
+    }
+
+    fn add_coordinate_to<F: Field>(&self, f: &F, y: u32, c: u64, factor: F::E, sums: &mut [u8]) {
+        let run = self.family.run(y);
+        let _ = run.size();
+        let numbers = run.first(c as u32, self.count as usize);
+        f.add_multiple(factor, numbers, &mut sums[..numbers.len()]);
     }
 }

@@ -1,7 +1,8 @@
 //! Lists of tuples of elements, by their coordinates.
 ghost use Rattle.std.specs.Prelude.{◌≡◌, ℕ, ◌+◌, ◌*◌, ◌%◌, ◌<◌, ◌≤◌, IsTrue, length, slice_index};
+ghost use Rattle.bmp_linear.specs.RowChanges.{HoldsNumbers, IsRowAddedTo};
 ghost use Rattle.bmp_linear.specs.RowTables.{Work};
-ghost use Rattle.bmp_sections.specs.TupleLists.{TupleList};
+ghost use Rattle.bmp_sections.specs.TupleLists.{TupleList, value_matrix};
 
 use bmp_field::Field;
 use bmp_linear::Scratch;
@@ -45,6 +46,21 @@ pub trait Sections {
             let sum = f.from_num(u32::from(s.get(true, c)));
             let term = f.mul(factor, f.from_num(u32::from(self.at(j, y, c))));
             s.set(true, c, f.num(f.add(sum, term)) as u8);
+        }
+    }
+    /// Adds `factor` times the coordinate `c` of the value at `y` of each tuple to the sums, one for each tuple.
+    fn add_coordinate_to<F: Field>(&self, f: &F, y: u32, c: u64, factor: F::E, sums: &mut [u8])
+        requires vertex { IsTrue ((list self.now).has y) }
+        requires coordinate { c < (list self.now).size y }
+        requires numbers { (j : ℕ) → j < (list self.now).count → (list self.now).value j y c < F.size f.now }
+        requires factor { F.is_value f.now factor }
+        requires sums { HoldsNumbers (F.size f.now) (list self.now).count sums.old }
+        ensures { IsRowAddedTo (F.size f.now) (value_matrix (list self.now) y) c (F.num f.now factor) sums.old sums.new }
+    {
+        for j in 0..self.count() {
+            let sum = f.from_num(u32::from(sums[j as usize]));
+            let term = f.mul(factor, f.from_num(u32::from(self.at(j, y, c))));
+            sums[j as usize] = f.num(f.add(sum, term)) as u8;
         }
     }
 }

@@ -1,5 +1,5 @@
 -- The row of an edge's coordinate is the row of its place in the joined matrix.
-use Rattle.std.proofs.Common.{◌≡◌, ℕ, ◌+◌, ◌-◌, ◌*◌, ◌%◌, ◌<◌, ◌≤◌, leb, List, get_or, inl, inr, sym, ap, ap₂, subst, ◌∙◌, arith}
+use Rattle.std.proofs.Common.{◌≡◌, ℕ, ◌+◌, ◌-◌, ◌*◌, ◌%◌, ◌<◌, ◌≤◌, leb, List, get_or, inl, inr, sym, ap, subst, ◌∙◌, arith}
 use Rattle.std.proofs.lemmas.Bool.{cases_lt, cond-true, cond-false, le-leb, lt-leb}
 use Rattle.bmp_math.specs.Sums.{sum_below}
 use Rattle.bmp_math.specs.Matrices.{Matrix, NumbersBelow, combination, SameMatrix}
@@ -16,23 +16,25 @@ use Rattle.bmp_sheaf.specs.Numbers.{lower_matrix, upper_matrix, boundary_matrix}
 use Rattle.bmp_sheaf.proofs.EdgeMaps.{upper_image}
 use Rattle.bmp_sheaf.proofs.BoundaryNumbers.{boundary_number_at, boundary_number_below}
 use Rattle.bmp_sheaf.proofs.BoundaryMaps.{boundary_entry, boundary_numbers_below}
-use Rattle.bmp_sections.specs.TupleLists.{TupleList, tuples_in}
+use Rattle.bmp_sections.specs.TupleLists.{TupleList, value_matrix, tuples_in}
 use Rattle.bmp_stalk.specs.Blocks.{tuple_boundary, IsBoundarySoFar}
-use Rattle.bmp_stalk.specs.Values.{value_matrix, IsJoinedRow, joined_matrix}
+use Rattle.bmp_stalk.specs.Values.{IsJoinedRow, joined_matrix}
 
--- an edge going up from x, its two maps, and the values of the tuples at its upper end
-pub record IsEdgeOf (G : Graph) (F : SheafData) (x d e : ℕ) (list : TupleList) (low high values : Matrix) : Type 0
-  where
-    pub over : IsOverField G
-    pub is_edge : e < edge_count G
-    pub starts : lower G e ≡ x
-    pub low_is : SameMatrix low (lower_matrix G F d e)
-    pub high_is : SameMatrix high (upper_matrix G F d e)
-    pub values_are : SameMatrix values (value_matrix list (upper G e))
-    pub size_is : list.size (upper G e) ≡ stalk_count G.rank (F.degrees (upper G e)) d
+-- an edge going up from x, and its two maps
+pub record IsEdgeOf (G : Graph) (F : SheafData) (x d e : ℕ) (list : TupleList) (low high : Matrix) : Type 0 where
+  pub over : IsOverField G
+  pub is_edge : e < edge_count G
+  pub starts : lower G e ≡ x
+  pub low_is : SameMatrix low (lower_matrix G F d e)
+  pub high_is : SameMatrix high (upper_matrix G F d e)
+  pub size_is : list.size (upper G e) ≡ stalk_count G.rank (F.degrees (upper G e)) d
 
-module _ {G : Graph} {F : SheafData} {x d e : ℕ} {list : TupleList} {low high values : Matrix}
-    (h : IsEdgeOf G F x d e list low high values) where
+module _ {G : Graph} {F : SheafData} {x d e : ℕ} {list : TupleList} {low high : Matrix}
+    (h : IsEdgeOf G F x d e list low high) where
+  -- the values at the upper end
+  abbrev values : Matrix
+  values = value_matrix list (upper G e)
+
   pub low_cols : low.cols ≡ stalk_count G.rank (F.degrees x) d
   low_cols = h.low_is.cols ∙ ap (λ y. stalk_count G.rank (F.degrees y) d) h.starts
 
@@ -44,16 +46,13 @@ module _ {G : Graph} {F : SheafData} {x d e : ℕ} {list : TupleList} {low high 
       value_number j is_tuple =
           let y : ℕ = upper G e in
           let n : ℕ = stalk_count G.rank (F.degrees (upper G e)) d in
-          let rows : values.rows ≡ stalk_count G.rank (F.degrees (upper G e)) d = h.values_are.rows ∙ h.size_is in
           ap (λ z. z % G.prime)
-          (ap (sum_below (λ c. number_at row c * values.entry c j)) rows
+          (ap (sum_below (λ c. number_at row c * values.entry c j)) h.size_is
           ∙ sum_below_same (λ c. number_at row c * values.entry c j)
           (λ c. (upper_matrix G F d e).entry i c * list.value j (upper G e) c) n
           (λ c l.
           let column : c < high.cols = omega (arith, l, h.high_is.cols) in
-          let coordinate : c < list.size (upper G e) = omega (arith, l, h.size_is) in
-          ap₂ (λ a b. a * b) (is_row.numbers c column ∙ h.high_is.entries i c inside l)
-          (h.values_are.entries c j coordinate is_tuple))
+          ap (λ a. a * list.value j (upper G e) c) (is_row.numbers c column ∙ h.high_is.entries i c inside l))
           ∙ products_turned ((upper_matrix G F d e).entry i) (list.value j (upper G e)) n)
           ∙ upper_image G h.over F d e h.is_edge (list.value j (upper G e)) i inside
           ∙ sym (boundary_number_at G F x d (boundary_of_tuple G (tuples_in G F d list j)) e i h.is_edge h.starts
@@ -78,7 +77,7 @@ module _ {G : Graph} {F : SheafData} {x d e : ℕ} {list : TupleList} {low high 
                 let back : low.cols + (c - split) ≡ c = omega (arith, late, low_cols) in
                 let is_tuple : c - split < list.count = omega (arith, late, column) in
                 ap (λ z. get_or xs z 0) (sym back)
-                ∙ made.of_values (c - split) (omega (arith, is_tuple, h.values_are.cols))
+                ∙ made.of_values (c - split) is_tuple
                 ∙ value_number (c - split) is_tuple
                 ∙ sym (cond-true {A = ℕ} (leb split c) of_tuple of_stalk (le-leb split c late))
           ]

@@ -1,5 +1,4 @@
 -- Values of tuples at one vertex, and the rows of joined boundaries. In the order to read:
---   value_matrix list y                    a row for each coordinate at y, a column for each tuple: its value there
 --   joined_matrix G F x d list             the boundary map at x, and behind it the boundaries of the tuples
 --   HasRowsOf n a b                        the rows of b are the first n of a
 --   IsJoinedRow p lower row values i xs    the numbers are row i of the lower map of an edge, and behind it what the
@@ -16,9 +15,6 @@ use Rattle.bmp_sheaf.specs.Coordinates.{stalk_count, boundary_count}
 use Rattle.bmp_sheaf.specs.Numbers.{boundary_matrix}
 use Rattle.bmp_sections.specs.TupleLists.{TupleList}
 use Rattle.bmp_stalk.specs.Blocks.{tuple_boundary}
-
-abbrev pub value_matrix : TupleList → ℕ → Matrix
-value_matrix list y = record { rows = list.size y; cols = list.count; entry = λ c j. list.value j y c }
 
 abbrev pub joined_matrix : Graph → SheafData → ℕ → ℕ → TupleList → Matrix
 joined_matrix G F x d list = let split = stalk_count G.rank (F.degrees x) d in record {

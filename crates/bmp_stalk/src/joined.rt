@@ -3,96 +3,63 @@ ghost use Rattle.std.specs.Prelude.{◌≡◌, ℕ, ◌+◌, ◌^◌, ◌<◌, �
 ghost use Rattle.bmp_math.specs.Matrices.{NumbersBelow, SameMatrix};
 ghost use Rattle.bmp_linear.specs.SparseVectors.{FitsBelow, ValuesBelow, number_at};
 ghost use Rattle.bmp_linear.specs.RowChanges.{IsCombined};
-ghost use Rattle.bmp_linear.specs.RowTables.{matrix_of_numbers};
 ghost use Rattle.bmp_graph.specs.Graph.{edge_count, lower, upper};
 ghost use Rattle.bmp_sheaf.specs.Coordinates.{stalk_count, edge_module_count, boundary_start};
 ghost use Rattle.bmp_sheaf.specs.States.{IsThere, sheaf_of};
 ghost use Rattle.bmp_cover.specs.CoverInputs.{HasStalks, HasTuples, HasValues};
 ghost use Rattle.bmp_stalk.specs.Blocks.{IsBoundarySoFar};
 ghost use Rattle.bmp_stalk.specs.Drafts.{AreFew};
-ghost use Rattle.bmp_stalk.specs.Values.{value_matrix, joined_matrix, HasRowsOf, IsJoinedRow};
+ghost use Rattle.bmp_sections.specs.TupleLists.{value_matrix};
+ghost use Rattle.bmp_stalk.specs.Values.{joined_matrix, HasRowsOf, IsJoinedRow};
 
 use bmp_field::Field;
-use bmp_linear::{DenseRows, RowSpace, Rows, Vector};
+use bmp_linear::{RowSpace, Rows, Vector};
 use bmp_sections::Sections;
 use bmp_sheaf::Sheaf;
 use std::alloc::{AllocError, Global};
 
-/// Adds the combination of the rows to a row of 0s.
-fn add_combination<F: Field, V: Rows<F>>(f: &F, values: &V, row: &Vector, sums: &mut [u8])
-    requires below { NumbersBelow (F.size f.now) (V.matrix values.now) }
-    requires fits { FitsBelow row.now (V.matrix values.now).rows }
+/// Adds the combination of the tuples' coordinates at `y` to a row of 0s, one for each tuple.
+fn add_combination<F: Field, T: Sections>(f: &F, tuples: &T, y: u32, row: &Vector, sums: &mut [u8])
+    requires vertex { IsTrue ((T.list tuples.now).has y) }
+    requires below { NumbersBelow (F.size f.now) (value_matrix (T.list tuples.now) y) }
+    requires fits { FitsBelow row.now ((T.list tuples.now).size y) }
     requires numbers { ValuesBelow row.now (F.size f.now) }
-    requires room { (V.matrix values.now).cols ≤ length sums.old }
+    requires room { (T.list tuples.now).count ≤ length sums.old }
     requires clear { EachIndex sums.old (λ j. slice_index sums.old j ≡ 0) }
-    ensures { IsCombined (F.size f.now) (V.matrix values.now) (number_at row.now) sums.new }
+    ensures { IsCombined (F.size f.now) (value_matrix (T.list tuples.now) y) (number_at row.now) sums.new }
 {
     for entry in row.entries() {
         let factor = f.from_num(u32::from(entry.value));
-        values.add_row_to(f, entry.place, factor, sums);
+        tuples.add_coordinate_to(f, y, u64::from(entry.place), factor, sums);
     }
 }
 
-/// Writes row `i` on an edge: what the lower map has there, and behind it what row `i` of the upper map says of each
-/// tuple's value. One pass over the tuples for each entry of the row.
-fn write_joined_row<F: Field, L: Rows<F>, V: Rows<F>>(
+/// Writes row `i` on an edge with the upper end `y`: what the lower map has there, and behind it what row `i` of the
+/// upper map says of each tuple's value. One pass over the tuples for each entry of the row.
+fn write_joined_row<F: Field, L: Rows<F>, T: Sections>(
     f: &F,
     lower: &L,
     row: &Vector,
-    values: &V,
+    tuples: &T,
+    y: u32,
     i: u32,
     numbers: &mut [u8],
 )
     requires below { NumbersBelow (F.size f.now) (L.matrix lower.now) }
-    requires values_below { NumbersBelow (F.size f.now) (V.matrix values.now) }
+    requires vertex { IsTrue ((T.list tuples.now).has y) }
+    requires values_below { NumbersBelow (F.size f.now) (value_matrix (T.list tuples.now) y) }
     requires row { i < (L.matrix lower.now).rows }
-    requires fits { FitsBelow row.now (V.matrix values.now).rows }
+    requires fits { FitsBelow row.now ((T.list tuples.now).size y) }
     requires numbers { ValuesBelow row.now (F.size f.now) }
-    requires sized { length numbers.old ≡ (L.matrix lower.now).cols + (V.matrix values.now).cols }
-    ensures row { IsJoinedRow (F.size f.now) (L.matrix lower.now) (number_at row.now) (V.matrix values.now) i
-        numbers.new }
+    requires sized { length numbers.old ≡ (L.matrix lower.now).cols + (T.list tuples.now).count }
+    ensures row { IsJoinedRow (F.size f.now) (L.matrix lower.now) (number_at row.now)
+        (value_matrix (T.list tuples.now) y) i numbers.new }
 {
     let (of_lower, of_values) = numbers.split_at_mut(lower.cols() as usize);
     of_lower.fill(0);
     of_values.fill(0);
     lower.add_row_to(f, i, f.one(), of_lower);
-    add_combination(f, values, row, of_values);
-}
-
-/// Writes coordinate `c` at `y` of each tuple.
-fn write_values<T: Sections>(tuples: &T, y: u32, c: u64, numbers: &mut [u8])
-    requires vertex { IsTrue ((T.list tuples.now).has y) }
-    requires coordinate { c < (T.list tuples.now).size y }
-    requires sized { length numbers.old ≡ (T.list tuples.now).count }
-    ensures { (j : ℕ) → j < (T.list tuples.now).count → slice_index numbers.new j ≡ (T.list tuples.now).value j y c }
-{
-    for j in 0..tuples.count() {
-        numbers[j as usize] = tuples.at(j, y, c);
-    }
-}
-
-/// The tuples' values at `y`, turned: a row for each coordinate, a column for each tuple. It works in a row of numbers.
-/// They are kept as bytes, since each is added to bytes.
-fn value_rows<F: Field, T: Sections>(
-    alloc: Global,
-    f: &F,
-    tuples: &T,
-    y: u32,
-    numbers: &mut [u8],
-) -> Result<DenseRows<F>, AllocError>
-    requires vertex { IsTrue ((T.list tuples.now).has y) }
-    requires numbers { (j c : ℕ) → j < (T.list tuples.now).count → c < (T.list tuples.now).size y
-        → (T.list tuples.now).value j y c < F.size f.now }
-    requires sized { length numbers.old ≡ (T.list tuples.now).count }
-    requires few { length numbers.old < 2 ^ 32 }
-    ensures { IfOk result (λ a. SameMatrix (matrix_of_numbers a) (value_matrix (T.list tuples.now) y)) }
-{
-    let mut rows = DenseRows::new(alloc, numbers.len() as u32);
-    for c in 0..tuples.size(y) {
-        write_values(tuples, y, c, numbers);
-        rows.push_numbers(f, numbers)?;
-    }
-    Ok(rows)
+    add_combination(f, tuples, y, row, of_values);
 }
 
 /// Appends the rows of an edge going up from its lower end.
@@ -104,7 +71,6 @@ fn push_edge<F: Field, T: Sections, A: RowSpace<F>>(
     tuples: &T,
     o: &mut A,
     joined: &mut [u8],
-    values: &mut [u8],
 ) -> Result<(), AllocError>
     requires edge { e < edge_count sheaf.now.graph }
     requires there { IsThere sheaf.now (lower sheaf.now.graph e) }
@@ -112,7 +78,6 @@ fn push_edge<F: Field, T: Sections, A: RowSpace<F>>(
     requires tuples { HasValues sheaf.now d (T.list tuples.now) (upper sheaf.now.graph e) }
     requires joined { let G = sheaf.now.graph in length joined.old
         ≡ stalk_count G.rank ((sheaf_of sheaf.now).degrees (lower G e)) d + (T.list tuples.now).count }
-    requires values { length values.old ≡ (T.list tuples.now).count }
     requires few { length joined.old < 2 ^ 32 }
     requires before { let G = sheaf.now.graph in let F = sheaf_of sheaf.now in
         HasRowsOf (boundary_start G F (lower G e) d e) (joined_matrix G F (lower G e) d (T.list tuples.now))
@@ -125,12 +90,11 @@ fn push_edge<F: Field, T: Sections, A: RowSpace<F>>(
     let low = sheaf.lower_rows(e, d);
     let high = sheaf.upper_rows(e, d);
     let y = sheaf.graph().edge(e).upper;
-    let rows = value_rows(alloc, f, tuples, y, values)?;
     let mut row = Vector::new(alloc);
     let mut work = vec![in alloc; 0; high.cols() as usize]?;
     for i in 0..low.rows() {
         high.read_row(f, i, &mut work, &mut row)?;
-        write_joined_row(f, low, &row, &rows, i, joined);
+        write_joined_row(f, low, &row, tuples, y, i, joined);
         o.push_numbers(f, joined)?;
     }
     Ok(())
@@ -145,13 +109,11 @@ fn push_edges<F: Field, T: Sections, A: RowSpace<F>>(
     tuples: &T,
     o: &mut A,
     joined: &mut [u8],
-    values: &mut [u8],
 ) -> Result<(), AllocError>
     requires stalks { HasStalks sheaf.now x d }
     requires tuples { HasTuples sheaf.now x d (T.list tuples.now) }
     requires joined { length joined.old
         ≡ stalk_count sheaf.now.graph.rank ((sheaf_of sheaf.now).degrees x) d + (T.list tuples.now).count }
-    requires values { length values.old ≡ (T.list tuples.now).count }
     requires few { length joined.old < 2 ^ 32 }
     requires before { HasRowsOf 0 (joined_matrix sheaf.now.graph (sheaf_of sheaf.now) x d (T.list tuples.now))
         (A.matrix o.old) }
@@ -160,14 +122,14 @@ fn push_edges<F: Field, T: Sections, A: RowSpace<F>>(
 {
     let (from, to) = sheaf.graph().up(x);
     for e in from..to {
-        push_edge(alloc, sheaf, e, d, tuples, o, joined, values)?;
+        push_edge(alloc, sheaf, e, d, tuples, o, joined)?;
     }
     Ok(())
 }
 
 /// The boundary map at `x` of the stalk that is there, in degree `d`, and behind it the boundaries of the tuples: as
-/// columns, in rows that are kept as `rows` are. For each edge going up from `x` one pass over the tuples' values there,
-/// and for each of its coordinates one combination of their rows.
+/// columns, in rows that are kept as `rows` are. For each coordinate of each edge going up from `x` one combination of
+/// runs of the tuples' coordinates.
 pub fn joined_boundary<F: Field, T: Sections, A: RowSpace<F>>(
     alloc: Global,
     sheaf: &Sheaf<F>,
@@ -187,8 +149,7 @@ pub fn joined_boundary<F: Field, T: Sections, A: RowSpace<F>>(
     let cols = sheaf.stalk_len(x, d) as usize + count;
     let mut o = rows.empty(cols as u32);
     let mut joined = vec![in alloc; 0; cols]?;
-    let mut values = vec![in alloc; 0; count]?;
     let _ = sheaf.graph();
-    push_edges(alloc, sheaf, x, d, tuples, &mut o, &mut joined, &mut values)?;
+    push_edges(alloc, sheaf, x, d, tuples, &mut o, &mut joined)?;
     Ok(o)
 }

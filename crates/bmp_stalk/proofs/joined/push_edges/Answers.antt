@@ -18,7 +18,6 @@ loop-e-init g c =
       rows = subst (λ n. HasRowsOf n J (g.A.Rows.matrix c.args.o.now))
           (starts_at s c.args.x c.args.d c.graph.ensures.state c.requires.stalks first past range) c.requires.before;
       joined = refl;
-      values = refl;
     }
 
 pub push_edge-requires-clause-tuples : goal.push_edge-requires-clause-tuples
@@ -52,7 +51,6 @@ loop-e-preserved g c =
           (sym (goes_on s x d c.graph.ensures.state c.requires.stalks first past range e c.loop-e.auto.e
           c.loop-e-test.true)) more;
       joined = c.push_edge.auto.joined ∙ c.loop-e.invariant.joined;
-      values = c.push_edge.auto.values ∙ c.loop-e.invariant.values;
     }
 
 pub returns : goal.returns

@@ -10,5 +10,4 @@ invariant-loop-e g l = let G = l.sheaf.graph in let F = sheaf_of l.sheaf in reco
   rows : HasRowsOf (boundary_start G F l.x l.d l.e) (joined_matrix G F l.x l.d (g.T.Sections.list l.tuples))
       (g.A.Rows.matrix l.o);
   joined : length l.joined ≡ length l.fn.joined;
-  values : length l.values ≡ length l.fn.values;
 }
