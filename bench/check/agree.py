@@ -116,4 +116,5 @@ def main():
     print("the same answers on", count, "altered texts; by status:", dict(sorted(statuses.items())))
 
 
-main()
+if __name__ == "__main__":
+    main()

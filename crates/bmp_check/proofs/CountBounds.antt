@@ -7,19 +7,6 @@ use Rattle.bmp_poly.specs.Exponents.{count}
 use Rattle.bmp_poly.proofs.Scanning.{count_small}
 use Rattle.bmp_sheaf.specs.Coordinates.{component_count, stalk_start}
 
--- in no variables there is the monomial 1 alone
-pub count_of_none : (r d : ℕ) → r ≤ 0 → d ≡ 0 → 1 ≡ count r d
-unfolding count
-count_of_none zero zero le none = refl
-count_of_none zero (suc d) le none = absurd (omega arith)
-count_of_none (suc r) d le none = absurd (omega arith)
-
-pub count_of_none_higher : (r d : ℕ) → r ≤ 0 → d ≢ 0 → 0 ≡ count r d
-unfolding count
-count_of_none_higher zero zero le some = absurd (some refl)
-count_of_none_higher zero (suc d) le some = refl
-count_of_none_higher (suc r) d le some = absurd (omega arith)
-
 -- in at most 5 variables
 pub count_few : (r d : ℕ) → r ≤ 5 → d ≤ 6 → count r d ≤ 255
 unfolding sum_below count
@@ -29,20 +16,6 @@ count_few r d le small =
     leb-true (count r d) 255
     (ap₂ (λ a b. leb (count a b) 255) (sym row) (sym col)
     ∙ agree_below_at (λ i. leb (count (i / 7) (i % 7)) 255) (λ i. true) 42 (r * 7 + d) refl (omega arith))
-
--- one generator more, of degree e
-module _ (r : ℕ) (degrees : List ℕ) (d n e size : ℕ) (read : e ≡ get_or degrees n 0)
-    (so_far : size ≡ stalk_start r degrees d n) where
-  step : size + component_count r d e ≡ stalk_start r degrees d (n + 1)
-  step = ap₂ (λ a b. a + component_count r d b) so_far read
-      ∙ sym (sum_below_more (λ h. component_count r d (get_or degrees h 0)) n)
-
-  pub stalk_start_more : e ≤ d → size + count r (d - e) ≡ stalk_start r degrees d (n + 1)
-  stalk_start_more within =
-      ap (λ z. size + z) (sym (cond-true {A = ℕ} (leb e d) (count r (d - e)) 0 (le-leb e d within))) ∙ step
-
-  pub stalk_start_same : d < e → size ≡ stalk_start r degrees d (n + 1)
-  stalk_start_same past = omega (arith, cond-false {A = ℕ} (leb e d) (count r (d - e)) 0 (lt-leb e d past), step)
 
 module _ (r : ℕ) (degrees : List ℕ) (d most : ℕ) (bound : (s : ℕ) → s ≤ 6 → count r s ≤ most) (small : d ≤ 6) where
   pub component_most : (e : ℕ) → component_count r d e ≤ most

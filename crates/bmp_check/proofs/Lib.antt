@@ -11,6 +11,7 @@ pub mod ShapeLemmas
 pub mod FitLemmas
 pub mod SheafLemmas
 pub mod StalkLemmas
+pub mod AheadLemmas
 pub mod InputLemmas
 pub mod RefusalLemmas
 pub mod RoomLemmas

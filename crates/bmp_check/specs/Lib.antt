@@ -14,6 +14,7 @@ pub mod Fits
 pub mod Accepted
 pub mod Shaped
 pub mod ShapedViews
+pub mod StalkTasks
 pub mod NumberedBlocks
 pub mod DegreeBlocks
 pub mod Settings

@@ -1,6 +1,5 @@
 //! How many coordinates stalks and boundaries have, from the degrees in the text.
 ghost use Rattle.std.specs.Prelude.{◌≡◌, ◌+◌, ◌-◌, ◌*◌, ◌^◌, ◌<◌, ◌≤◌, length};
-ghost use Rattle.bmp_poly.specs.Exponents.{count};
 ghost use Rattle.bmp_graph.specs.Graph.{vertex_count};
 ghost use Rattle.bmp_sheaf.specs.Coordinates.{stalk_count, boundary_count};
 ghost use Rattle.bmp_check.specs.PartsSheaf.{parts_sheaf};
@@ -11,22 +10,7 @@ use crate::given::Given;
 use crate::part::part_of;
 use bmp_cert::Degrees;
 use bmp_graph::MomentGraph;
-use bmp_poly::monomials;
-
-/// How many monomials of the degree there are in `rank` variables. In none there is 1 alone.
-fn monomials_in(rank: u8, degree: u32) -> u32
-    requires rank { rank ≤ 6 }
-    requires degree { degree ≤ 6 }
-    ensures { result ≡ count rank degree }
-{
-    if rank > 0 {
-        monomials::count(rank, degree)
-    } else if degree == 0 {
-        1
-    } else {
-        0
-    }
-}
+use bmp_module::free;
 
 /// How many coordinates of degree `d` a free module in `rank` variables with generators of these degrees has.
 pub(crate) fn stalk_size(rank: u8, degrees: &Degrees, d: u32) -> u64
@@ -36,14 +20,8 @@ pub(crate) fn stalk_size(rank: u8, degrees: &Degrees, d: u32) -> u64
     ensures small { result ≤ MOST_SIZE }
     ensures smaller { rank ≤ 5 → result ≤ 255 * 2 ^ 32 }
 {
-    let mut size = 0;
     let items = degrees.as_slice();
-    'generators: for e in items {
-        if *e <= d {
-            size += u64::from(monomials_in(rank, d - *e));
-        }
-    }
-    size
+    free::dimension(rank, items, d)
 }
 
 /// How many coordinates of degree `d` a boundary at the vertex has.

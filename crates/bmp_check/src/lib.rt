@@ -30,6 +30,7 @@ mod shaped;
 mod size_check;
 mod size_rows;
 mod sizes;
+mod stalk_tasks;
 mod top;
 mod tuple_counts;
 mod whole;

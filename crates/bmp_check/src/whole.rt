@@ -19,7 +19,7 @@ use crate::pieces::{check_blocks, pieces_for};
 use crate::refusal::CheckError;
 use crate::setting::Setting;
 use crate::top::check_top;
-use crate::written::{check_sizes, shaped_of};
+use crate::written::{check_sizes, shaped_of, sheaf_by};
 use bmp_cert::{Accepted, Cert, Parts, Ranks};
 use bmp_graph::MomentGraph;
 use bmp_par::{Gate, OpenGate};
@@ -32,7 +32,8 @@ use std::thread::Threads;
 /// degree up to the bound, no generator has a degree above the bound, and each number is the dimension of the boundary
 /// module modulo multiples of positive degree.
 ///
-/// Each worker checks the blocks of some of the vertices, and the answer is the same for any number of workers.
+/// The workers add the stalks of the vertices of one length at once, and then each checks the blocks of some of the
+/// vertices; the answer is the same for any number of workers.
 pub fn check_graph(
     rt: &(impl Threads + Sync),
     alloc: Global,
@@ -89,7 +90,8 @@ pub fn check_graph_with<W: Gate>(
     };
     let sizes = check_sizes(alloc, graph, &given)?;
     check_top(&given)?;
-    let shaped = shaped_of(alloc, graph, &given, sizes)?;
+    let sheaf = sheaf_by(rt, alloc, graph, &given, workers)?;
+    let shaped = shaped_of(graph, &given, sizes, sheaf);
     let setting = Setting::of(alloc, shaped)?;
     let mut pieces = pieces_for(alloc, setting.shaped(), workers)?;
     check_blocks(rt, &setting, workers, &mut pieces, gate)?;

@@ -1,10 +1,10 @@
 //! The sheaf that parts write down, where all sizes pass.
-ghost use Rattle.std.specs.Prelude.{◌≡◌, ◌<◌, ◌⊎◌, OnOk, IfErr, IfOk, All, length};
+ghost use Rattle.std.specs.Prelude.{◌≡◌, ◌<◌, ◌≤◌, ◌⊎◌, [], OnOk, IfErr, IfOk, All, length};
 ghost use Rattle.bmp_linear.specs.SparseVectors.{ValuesBelow};
 ghost use Rattle.bmp_graph.specs.Graph.{vertex_count};
 ghost use Rattle.bmp_sheaf.specs.States.{next_vertex, with_stalk};
 ghost use Rattle.bmp_sheaf.specs.StalkFaults.{IsStalk};
-ghost use Rattle.bmp_check.specs.Accepted.{IsCheckable};
+ghost use Rattle.bmp_check.specs.Accepted.{IsCheckableGraph, IsCheckable};
 ghost use Rattle.bmp_check.specs.CheckErrors.{IsRefusedBy};
 ghost use Rattle.bmp_check.specs.Shaped.{cert_stalk, IsSheafOf};
 ghost use Rattle.bmp_check.specs.ShapedViews.{method_in, written_in, graph_in, version_in, cert_in, IsWhole};
@@ -16,15 +16,17 @@ use crate::refusal::CheckError;
 use crate::shape_pass::{check_count, check_shape};
 use crate::shaped::Shaped;
 use crate::sizes::SizeTable;
+use crate::stalk_tasks::add_stalks;
 use bmp_cert::VertexPart;
 use bmp_field::PrimeField;
 use bmp_graph::MomentGraph;
 use bmp_sheaf::{Sheaf, SheafFault};
 use std::alloc::{AllocError, Global};
+use std::thread::Threads;
 
 /// Adds the stalk that a part writes down, at the greatest vertex whose stalk isn't there. Since it is one, memory
 /// alone can be wanting.
-fn push_part(sheaf: &mut Sheaf<PrimeField>, part: &VertexPart) -> Result<(), AllocError>
+pub(crate) fn push_part(sheaf: &mut Sheaf<PrimeField>, part: &VertexPart) -> Result<(), AllocError>
     requires left { length sheaf.old.stalks < vertex_count sheaf.old.graph }
     requires values { All (λ v. ValuesBelow v sheaf.old.graph.prime) part.now.lifts }
     requires stalk { IsStalk sheaf.old (next_vertex sheaf.old) part.now.degrees part.now.lifts }
@@ -37,6 +39,23 @@ fn push_part(sheaf: &mut Sheaf<PrimeField>, part: &VertexPart) -> Result<(), All
     }
 }
 
+/// The sheaf on a graph, over its field, of which no stalk is there yet.
+fn empty_sheaf(
+    alloc: Global,
+    graph: &MomentGraph,
+    degree: u32,
+) -> Result<Sheaf<PrimeField>, AllocError>
+    requires on { IsCheckableGraph graph.now }
+    requires degree { degree ≤ 6 }
+    ensures { IfOk result (λ s. (s.graph ≡ graph.now) × (s.degree ≡ degree) × (s.stalks ≡ [])) }
+{
+    let field = match PrimeField::new(graph.prime()) {
+        Ok(field) => field,
+        Err(_) => unreachable!(),
+    };
+    Sheaf::new(alloc, graph, field, degree)
+}
+
 /// The sheaf that parts write down on a graph: its stalks come from the greatest vertex down.
 fn sheaf_of(alloc: Global, graph: &MomentGraph, c: &Given) -> Result<Sheaf<PrimeField>, AllocError>
     requires checkable { IsCheckable graph.now c.now.version (written_in c.now) }
@@ -44,14 +63,33 @@ fn sheaf_of(alloc: Global, graph: &MomentGraph, c: &Given) -> Result<Sheaf<Prime
     requires shape { ShapePasses graph.now (method_in c.now) (written_in c.now) }
     ensures { IfOk result (IsSheafOf graph.now (written_in c.now)) }
 {
-    let field = match PrimeField::new(graph.prime()) {
-        Ok(field) => field,
-        Err(_) => unreachable!(),
-    };
-    let mut sheaf = Sheaf::new(alloc, graph, field, c.degree)?;
+    let mut sheaf = empty_sheaf(alloc, graph, c.degree)?;
     'parts: for i in 0..c.parts.len() {
         push_part(&mut sheaf, c.parts.at(i))?;
     }
+    Ok(sheaf)
+}
+
+/// The same sheaf by so many workers: the stalks of the vertices of one length come at once.
+pub(crate) fn sheaf_by(
+    rt: &(impl Threads + Sync),
+    alloc: Global,
+    graph: &MomentGraph,
+    c: &Given,
+    workers: u32,
+) -> Result<Sheaf<PrimeField>, AllocError>
+    requires checkable { IsCheckable graph.now c.now.version (written_in c.now) }
+    requires count { CountPasses graph.now (written_in c.now) }
+    requires shape { ShapePasses graph.now (method_in c.now) (written_in c.now) }
+    requires workers { (1 ≤ workers) × (workers ≤ 32) }
+    ensures { IfOk result (IsSheafOf graph.now (written_in c.now)) }
+{
+    if workers == 1 {
+        let one_by_one = sheaf_of(alloc, graph, c)?;
+        return Ok(one_by_one);
+    }
+    let mut sheaf = empty_sheaf(alloc, graph, c.degree)?;
+    add_stalks(rt, alloc, &mut sheaf, c, workers)?;
     Ok(sheaf)
 }
 
@@ -78,27 +116,27 @@ pub(crate) fn check_sizes(
 
 /// Parts whose number and sizes all pass, by their table of sizes, with the sheaf that they write down.
 pub(crate) fn shaped_of<'a>(
-    alloc: Global,
     graph: &'a MomentGraph,
     c: &Given<'a>,
     sizes: SizeTable,
-) -> Result<Shaped<'a>, AllocError>
+    sheaf: Sheaf<PrimeField>,
+) -> Shaped<'a>
     requires checkable { IsCheckable graph.now c.now.version (written_in c.now) }
     requires sizes { AreSizesOf graph.now (method_in c.now) (written_in c.now) sizes }
     requires count { CountPasses graph.now (written_in c.now) }
     requires shape { ShapePasses graph.now (method_in c.now) (written_in c.now) }
-    ensures whole { IfOk result IsWhole }
-    ensures graph { IfOk result (λ s. graph_in s ≡ graph.now) }
-    ensures version { IfOk result (λ s. version_in s ≡ c.now.version) }
-    ensures cert { IfOk result (λ s. cert_in s ≡ written_in c.now) }
+    requires sheaf { IsSheafOf graph.now (written_in c.now) sheaf }
+    ensures whole { IsWhole result }
+    ensures graph { graph_in result ≡ graph.now }
+    ensures version { version_in result ≡ c.now.version }
+    ensures cert { cert_in result ≡ written_in c.now }
 {
-    let sheaf = sheaf_of(alloc, graph, c)?;
-    Ok(Shaped {
+    Shaped {
         graph,
         given: *c,
         sizes,
         sheaf,
-    })
+    }
 }
 
 /// Compares the number of parts with that of the vertices of the graph, and all sizes, before any sheaf is made. A
@@ -120,6 +158,6 @@ pub fn shape<'a>(
         (CountPasses graph.now w × IsShapeRefusal graph.now (method_in c.now) w r))) }
 {
     let sizes = check_sizes(alloc, graph, c)?;
-    let shaped = shaped_of(alloc, graph, c, sizes)?;
-    Ok(shaped)
+    let sheaf = sheaf_of(alloc, graph, c)?;
+    Ok(shaped_of(graph, c, sizes, sheaf))
 }

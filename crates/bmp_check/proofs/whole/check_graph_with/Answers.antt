@@ -11,7 +11,7 @@ use Rattle.bmp_check.proofs.whole.check_graph_with.Goals as goal
 pub returns-clause-passes : goal.returns-clause-passes
 returns-clause-passes g c =
     let w : Written = record { degree = c.args.degree; parts = c.args.parts.now } in
-    let shaped = c.in_ok-shaped.ensures in
+    let shaped = c.shaped_of-shaped.ensures in
     let set = c.in_ok-setting.ensures.shaped in
     all_pass c.args.graph.now c.args.version w (ap graph_in set ∙ shaped.graph) (ap version_in set ∙ shaped.version)
     (ap cert_in set ∙ shaped.cert) c.in_ok-sizes.ensures.count c.in_ok-sizes.ensures.shape
@@ -36,7 +36,7 @@ pub returns-in_err-check_blocks-clause-refused : goal.returns-in_err-check_block
 returns-in_err-check_blocks-clause-refused g c =
     let w : Written = record { degree = c.args.degree; parts = c.args.parts.now } in
     let r = c.in_err-check_blocks.field-0.0 in
-    let shaped = c.in_ok-shaped.ensures in
+    let shaped = c.shaped_of-shaped.ensures in
     let set = c.in_ok-setting.ensures.shaped in
     let p =
     err_from_is_err_and c.from_residual-in_err-check_blocks.result c.from_residual-in_err-check_blocks.ensures.1 in

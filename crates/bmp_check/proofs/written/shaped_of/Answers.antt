@@ -6,5 +6,5 @@ returns-clause-whole c = record {
   count = c.requires.count;
   shape = c.requires.shape;
   sizes = c.requires.sizes;
-  sheaf = c.in_ok-sheaf.ensures;
+  sheaf = c.requires.sheaf;
 }

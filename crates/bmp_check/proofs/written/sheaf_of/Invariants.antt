@@ -1,4 +1,4 @@
-use Rattle.bmp_check.proofs.StalkLemmas.{IsSheafUpTo}
+use Rattle.bmp_check.specs.StalkTasks.{IsSheafUpTo}
 use Rattle.bmp_check.specs.ShapedViews.{written_in}
 use Rattle.bmp_check.proofs.written.sheaf_of.Given as goal
 
