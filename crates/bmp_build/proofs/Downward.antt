@@ -7,12 +7,10 @@ use Rattle.std.proofs.lemmas.Bool.{cases_lt}
 use Rattle.std.proofs.lemmas.List.{length-map, length-append, length-replicate, length_push, length-take-le, get_or-take, get_or_push, get_or_append_left, get_or-append_right, get_or-replicate, take_at, take_all, take_more, map-append}
 use Rattle.std.proofs.lemmas.List.Elements.{All-nil}
 use Rattle.bmp_graph.specs.Graph.{Graph, IsGraph, vertex_count, length_at}
-use Rattle.bmp_graph.proofs.GraphLemmas.{IsAbove-higher}
 use Rattle.bmp_linear.specs.declared.vector.Entry.{Entry}
 use Rattle.bmp_linear.specs.SparseVectors.{ValuesBelow}
 use Rattle.bmp_sheaf.specs.Coordinates.{stalk_count}
-use Rattle.bmp_sheaf.specs.States.{Stalk, no_stalk, SheafState, stalk_of, next_vertex, sheaf_of}
-use Rattle.bmp_sections.proofs.AboveLemmas.{above_from_test}
+use Rattle.bmp_sheaf.specs.States.{Stalk, no_stalk, SheafState, stalk_of, next_vertex, with_stalk, sheaf_of}
 use Rattle.bmp_levels.specs.Extensions.{HoldsLevel}
 use Rattle.bmp_levels.specs.Families.{family, stalk_size}
 use Rattle.bmp_levels.specs.Levels.{level_vertices}
@@ -29,11 +27,13 @@ use Rattle.bmp_check.specs.PartsSheaf.{parts_sheaf}
 use Rattle.bmp_check.specs.Shaped.{cert_stalk}
 use Rattle.bmp_check.proofs.CheckableLemmas.{over_field}
 use Rattle.bmp_check.proofs.TupleCountLemmas.{not_greatest}
-use Rattle.bmp_stalk.specs.BuiltParts.{no_family, list_at, HaveMembers, IsBuiltPart}
-use Rattle.bmp_build.specs.BuiltGraphs.{IsHeldPart, AreBuilt}
+use Rattle.bmp_stalk.specs.BuiltParts.{no_family, list_at, IsBuiltPart}
+use Rattle.bmp_build.specs.BuiltGraphs.{IsHeldPart, IsBefore, AreBuilt}
 use Rattle.bmp_build.specs.Building.{Continues, IsBuiltIn, HoldsFamily, IsBuiltDown, IsLevelThere, AreCounts}
+use Rattle.bmp_build.specs.Tasks.{Made, IsAtLength, IsBuiltBy, IsMadeOver, HaveMembersOver}
 use Rattle.bmp_build.proofs.BuiltVertices.{passes_at}
 use Rattle.bmp_build.proofs.Gaps.{family_over_gap}
+use Rattle.bmp_build.proofs.VertexStalks.{longer_past}
 
 -- ---- parts and their continuations
 
@@ -81,7 +81,8 @@ module _ {A : Type 0} {G : Graph} {D : ℕ} (s : SheafState A) {parts : List Ver
 -- ---- a state on the way
 
 module _
-    {A : Type 0} {G : Graph} {D level low : ℕ} {s : SheafState A} {parts : List VertexPart} {families : List FamilyTable}
+    {A : Type 0} {G : Graph} {D level low : ℕ} {s : SheafState A} {parts : List VertexPart}
+    {families : List FamilyTable}
     (h : IsBuiltDown G D level low s parts families) where
   pub own_down : IsBuiltDown s.graph s.degree level low s parts families
   own_down =
@@ -150,7 +151,8 @@ module _
 
 -- the length of the next vertex
 pub next_in :
-    {A : Type 0} {G : Graph} {D level low k : ℕ} {s : SheafState A} {parts : List VertexPart} {families : List FamilyTable}
+    {A : Type 0} {G : Graph} {D level low k : ℕ} {s : SheafState A} {parts : List VertexPart}
+    {families : List FamilyTable}
     → IsBuiltDown G D level low s parts families → k ≡ length_at s.graph (next_vertex s) →
     k ≡ length_at G (vertex_count G - 1 - length parts)
 next_in {G = G} {k = k} {s = s} {parts = parts} h is =
@@ -161,7 +163,8 @@ next_in {G = G} {k = k} {s = s} {parts = parts} h is =
 -- ---- the end
 
 module _
-    {A : Type 0} {G : Graph} {D level low : ℕ} {s : SheafState A} {parts : List VertexPart} {families : List FamilyTable}
+    {A : Type 0} {G : Graph} {D level low : ℕ} {s : SheafState A} {parts : List VertexPart}
+    {families : List FamilyTable}
     (h : IsBuiltDown G D level low s parts families) (all : vertex_count G ≤ length parts) where
   all_there : length parts ≡ vertex_count G
   all_there = omega (arith, all, h.few)
@@ -185,142 +188,153 @@ module _
 -- ---- to the next level
 
 -- with all of its length, the next vertex is there
-pub level_more : {G : Graph} {k : ℕ} (parts : List VertexPart) {more : List VertexPart} → IsLevelThere G k more → length parts < vertex_count G →
+pub level_more : {G : Graph} {k : ℕ} (parts : List VertexPart) {more : List VertexPart} → IsLevelThere G k more →
+    length parts < vertex_count G →
     k ≡ length_at G (vertex_count G - 1 - length parts) → length parts < length more
 level_more {G = G} parts level left next =
     let there = level.there (vertex_count G - 1 - length parts) (omega (arith, left)) (omega (arith, next)) in
     omega (arith, there, left)
 
-module _ {A : Type 0} {G : Graph} {D k : ℕ} {s : SheafState A} {parts : List VertexPart} {families : List FamilyTable} where
-  -- the next vertex has length k
-  module _ {level : ℕ} (is : IsGraph G) (h : IsBuiltDown G D level level s parts families)
-      (left : length parts < vertex_count G) (next : k ≡ length_at G (vertex_count G - 1 - length parts)) where
-    shorter : k < level
-    shorter = elim (cases_lt k level) [
-      | inl short ↦ short
-      | inr long ↦ absurd
-          (let there = h.there (vertex_count G - 1 - length parts) (omega (arith, left)) (omega (arith, long, next)) in
-          omega (arith, there, left))
-    ]
+module _ {A : Type 0} {G : Graph} {D k : ℕ} {s : SheafState A} {parts : List VertexPart} {families : List FamilyTable}
+  where
+    -- the next vertex has length k
+    module _ {level : ℕ} (is : IsGraph G) (h : IsBuiltDown G D level level s parts families)
+        (left : length parts < vertex_count G) (next : k ≡ length_at G (vertex_count G - 1 - length parts)) where
+      shorter : k < level
+      shorter = elim (cases_lt k level) [
+        | inl short ↦ short
+        | inr long ↦ absurd
+            (let there = h.there (vertex_count G - 1 - length parts) (omega (arith, left)) (omega (arith, long, next)) in
+            omega (arith, there, left))
+      ]
 
-    under_top : level ≤ length_at G (top_vertex G)
-    under_top = let some = h.some in h.only (top_vertex G) (omega (arith, left)) (omega (arith, left, some))
+      under_top : level ≤ length_at G (top_vertex G)
+      under_top = let some = h.some in h.only (top_vertex G) (omega (arith, left)) (omega (arith, left, some))
 
-    pub next_shorter : k < length_at G (top_vertex G)
-    next_shorter = omega (arith, shorter, under_top)
+      pub next_shorter : k < length_at G (top_vertex G)
+      next_shorter = omega (arith, shorter, under_top)
 
-    -- no vertex has a length between k and the level
-    no_other : IsGap G (suc k) level
-    no_other y below long = elim (cases_lt (y + length parts) (vertex_count G)) [
-      | inl missing ↦ absurd
-          (let rises : length_at G y ≤ length_at G (vertex_count G - 1 - length parts) =
-          is.lengths_rise y (vertex_count G - 1 - length parts) (omega (arith, missing)) (omega (arith, left)) in
-          omega (arith, rises, long, next))
-      | inr there ↦ h.only y below there
-    ]
+      -- no vertex has a length between k and the level
+      no_other : IsGap G (suc k) level
+      no_other y below long = elim (cases_lt (y + length parts) (vertex_count G)) [
+        | inl missing ↦ absurd
+            (let rises : length_at G y ≤ length_at G (vertex_count G - 1 - length parts) =
+            is.lengths_rise y (vertex_count G - 1 - length parts) (omega (arith, missing)) (omega (arith, left)) in
+            omega (arith, rises, long, next))
+        | inr there ↦ h.only y below there
+      ]
 
-    own_gap : IsGap s.graph (suc k) level
-    own_gap = subst (λ (H : Graph). IsGap H (suc k) level) (sym h.graph) no_other
+      own_gap : IsGap s.graph (suc k) level
+      own_gap = subst (λ (H : Graph). IsGap H (suc k) level) (sym h.graph) no_other
 
-    longer_family : (d : ℕ) (f : FamilyTable) → HoldsFamily G D level parts s d f → HoldsFamily G D (suc k) parts s d f
-    longer_family d f old = record {
-      holds = record {
-        vertices = old.holds.vertices;
-        has = λ y inside. old.holds.has y (inside.0, own_gap y inside.0 inside.1);
-        only = λ y below there. (let long = old.holds.only y below there in omega (arith, long, shorter));
-        sizes = λ y inside. old.holds.sizes y (inside.0, own_gap y inside.0 inside.1);
-      };
-      same = λ c more.
-          family_over_gap G (parts_sheaf G c) d (top_vertex G) (λ y. block_of c y d) (suc k) level (list_of f)
-          (omega (arith, shorter)) under_top no_other (old.same c more);
+      longer_family : (d : ℕ) (f : FamilyTable) → HoldsFamily G D level parts s d f → HoldsFamily G D (suc k) parts s d f
+      longer_family d f old = record {
+        holds = record {
+          vertices = old.holds.vertices;
+          has = λ y inside. old.holds.has y (inside.0, own_gap y inside.0 inside.1);
+          only = λ y below there. (let long = old.holds.only y below there in omega (arith, long, shorter));
+          sizes = λ y inside. old.holds.sizes y (inside.0, own_gap y inside.0 inside.1);
+        };
+        same = λ c more.
+            family_over_gap G (parts_sheaf G c) d (top_vertex G) (λ y. block_of c y d) (suc k) level (list_of f)
+            (omega (arith, shorter)) under_top no_other (old.same c more);
+      }
+
+      -- the families over the longer vertices are there, and no vertex of length k
+      pub level_begun : IsBuiltDown s.graph s.degree (suc k) k s parts families
+      level_begun = own_down (record {
+        graph = h.graph;
+        degree = h.degree;
+        stalks = h.stalks;
+        some = h.some;
+        few = h.few;
+        top = h.top;
+        there = λ y below long. h.there y below (no_other y below long);
+        only = λ y below there. (let long = h.only y below there in omega (arith, long, shorter));
+        vertices = h.vertices;
+        sized = h.sized;
+        families = λ d within. longer_family d (get_or families d no_family) (h.families d within);
+      })
+
+    -- the last vertex that is there has the length of the level
+    pub level_last : (fewer : List VertexPart) → IsGraph G → IsBuiltDown G D k k s parts families →
+        length fewer < length parts → k ≡ length_at G (vertex_count G - 1 - length fewer) →
+        length_at G (vertex_count G - length parts) ≡ k
+    level_last fewer is h more next =
+        let few = h.few in
+        let some = h.some in
+        let low : k ≤ length_at G (vertex_count G - length parts) =
+        h.only (vertex_count G - length parts) (omega (arith, few, some)) (omega (arith, few)) in
+        let rises : length_at G (vertex_count G - length parts) ≤ length_at G (vertex_count G - 1 - length fewer) =
+        is.lengths_rise (vertex_count G - length parts) (vertex_count G - 1 - length fewer)
+        (omega (arith, more, few)) (omega (arith, more, few)) in
+        omega (arith, low, rises, next)
+
+    -- where the next vertex has another length, all of length k are there
+    pub level_there : IsGraph G → IsBuiltDown G D (suc k) k s parts families →
+        ((length s.stalks < vertex_count s.graph) × (length_at s.graph (next_vertex s) ≡ k) → ⊥) →
+        IsLevelThere G k parts
+    level_there is h none = record {
+      there = λ y below long. elim (cases_lt (y + length parts) (vertex_count G)) [
+        | inr there ↦ there
+        | inl missing ↦
+            let x = vertex_count G - 1 - length parts in
+            let next : next_vertex s ≡ vertex_count G - 1 - length parts = omega (arith, pushed h, own_vertices h) in
+            let rises : length_at G y ≤ length_at G (vertex_count G - 1 - length parts) =
+            is.lengths_rise y x (omega (arith, missing)) (omega (arith, missing)) in
+            elim (cases_lt k (length_at G (vertex_count G - 1 - length parts))) [
+              | inl longer ↦ absurd
+                  (let there = h.there x (omega (arith, missing)) longer in omega (arith, there, missing))
+              | inr short ↦
+                  let here : length_at G (vertex_count G - 1 - length parts) ≡ k = omega (arith, rises, long, short) in
+                  absurd (none (
+                    omega (arith, missing, pushed h, own_vertices h),
+                    subst (λ (H : Graph). length_at H (next_vertex s) ≡ k) (sym h.graph)
+                        (subst (λ z. length_at G z ≡ k) (sym next) here),
+                  ))
+            ]
+      ];
     }
-
-    -- the families over the longer vertices are there, and no vertex of length k
-    pub level_begun : IsBuiltDown s.graph s.degree (suc k) k s parts families
-    level_begun = own_down (record {
-      graph = h.graph;
-      degree = h.degree;
-      stalks = h.stalks;
-      some = h.some;
-      few = h.few;
-      top = h.top;
-      there = λ y below long. h.there y below (no_other y below long);
-      only = λ y below there. (let long = h.only y below there in omega (arith, long, shorter));
-      vertices = h.vertices;
-      sized = h.sized;
-      families = λ d within. longer_family d (get_or families d no_family) (h.families d within);
-    })
-
-  -- the last vertex that is there has the length of the level
-  pub level_last : (fewer : List VertexPart) → IsGraph G → IsBuiltDown G D k k s parts families →
-      length fewer < length parts → k ≡ length_at G (vertex_count G - 1 - length fewer) →
-      length_at G (vertex_count G - length parts) ≡ k
-  level_last fewer is h more next =
-      let few = h.few in
-      let some = h.some in
-      let low : k ≤ length_at G (vertex_count G - length parts) =
-      h.only (vertex_count G - length parts) (omega (arith, few, some)) (omega (arith, few)) in
-      let rises : length_at G (vertex_count G - length parts) ≤ length_at G (vertex_count G - 1 - length fewer) =
-      is.lengths_rise (vertex_count G - length parts) (vertex_count G - 1 - length fewer)
-      (omega (arith, more, few)) (omega (arith, more, few)) in
-      omega (arith, low, rises, next)
-
-  -- where the next vertex has another length, all of length k are there
-  pub level_there : IsGraph G → IsBuiltDown G D (suc k) k s parts families →
-      ((length s.stalks < vertex_count s.graph) × (length_at s.graph (next_vertex s) ≡ k) → ⊥) →
-      IsLevelThere G k parts
-  level_there is h none = record {
-    there = λ y below long. elim (cases_lt (y + length parts) (vertex_count G)) [
-      | inr there ↦ there
-      | inl missing ↦
-          let x = vertex_count G - 1 - length parts in
-          let next : next_vertex s ≡ vertex_count G - 1 - length parts = omega (arith, pushed h, own_vertices h) in
-          let rises : length_at G y ≤ length_at G (vertex_count G - 1 - length parts) =
-          is.lengths_rise y x (omega (arith, missing)) (omega (arith, missing)) in
-          elim (cases_lt k (length_at G (vertex_count G - 1 - length parts))) [
-            | inl longer ↦ absurd
-                (let there = h.there x (omega (arith, missing)) longer in omega (arith, there, missing))
-            | inr short ↦
-                let here : length_at G (vertex_count G - 1 - length parts) ≡ k = omega (arith, rises, long, short) in
-                absurd (none (
-                  omega (arith, missing, pushed h, own_vertices h),
-                  subst (λ (H : Graph). length_at H (next_vertex s) ≡ k) (sym h.graph)
-                      (subst (λ z. length_at G z ≡ k) (sym next) here),
-                ))
-          ]
-    ];
-  }
 
 -- ---- one vertex more, of the length below the level
 
+-- what a part that was made at a vertex was made upon, whatever parts come behind those that are there
+pub made_before :
+    {A : Type 0} {G : Graph} {D : ℕ} {s : SheafState A} {parts : List VertexPart} {k x : ℕ} {t : SheafState A} →
+    IsGraph G → s.graph ≡ G → s.degree ≡ D → s.stalks ≡ map cert_stalk parts → x ≡ vertex_count G - 1 - length parts →
+    IsAtLength k s x t → {c : Written} → Continues G D parts c → IsBefore G c x t
+made_before {G = G} {s = s} {parts = parts} {k = k} {x = x} {t = t} is graph degree stalks next at {c} more =
+    let vertices : vertex_count s.graph ≡ vertex_count G = ap (λ (H : Graph). vertex_count H) graph in
+    let here : length_at G x ≡ k = subst (λ (H : Graph). length_at H x ≡ k) graph at.long in
+    record {
+      graph = at.graph ∙ graph;
+      degree = at.degree ∙ degree ∙ sym more.degree;
+      pushed = omega (arith, at.pushed, vertices);
+      longer = λ y below long.
+          let past = longer_past G is x y (omega (arith, at.vertex, vertices)) long in
+          let own : k < length_at s.graph y =
+          subst (λ (H : Graph). k < length_at H y) (sym graph) (omega (arith, here, long)) in
+          at.longer y (omega (arith, below, vertices)) own
+          ∙ stalk_in s graph stalks more y below (omega (arith, past, next));
+    }
+
 module _
     {A : Type 0} {G : Graph} {D k : ℕ} {s : SheafState A} {parts : List VertexPart} {families : List FamilyTable}
-    (on : IsCheckableGraph G) (h : IsBuiltDown G D (suc k) k s parts families)
-    (left : length s.stalks < vertex_count s.graph) (here : length_at s.graph (next_vertex s) ≡ k) {counts : List ℕ}
+    (on : IsCheckableGraph G) (h : IsBuiltDown G D (suc k) k s parts families) {counts : List ℕ}
     (counted : AreCounts families counts) where
-  more_left : length parts < vertex_count G
-  more_left = omega (arith, left, pushed h, own_vertices h)
-
-  next_is : next_vertex s ≡ vertex_count G - 1 - length parts
-  next_is = omega (arith, pushed h, own_vertices h)
-
-  length_here : length_at G (vertex_count G - 1 - length parts) ≡ k
-  length_here =
-      subst (λ (H : Graph). length_at H (vertex_count G - 1 - length parts) ≡ k) h.graph
-      (subst (λ y. length_at s.graph y ≡ k) next_is here)
-
   own_count : (d : ℕ) → d ≤ D → get_or counts d 0 ≡ (get_or families d no_family).count
   own_count d within = counted.each d (omega (arith, within, h.sized))
 
-  pub have_members : HaveMembers s families counts
-  have_members = record {
+  pub members_over : HaveMembersOver k s families counts
+  members_over = record {
+    some = let some = h.some in omega (arith, some, pushed h);
+    families_are = omega (arith, h.sized, h.degree);
+    counts_are = let sized = counted.sized in omega (arith, sized, h.sized, h.degree);
     within = λ d l. (let same = own_count d (omega (arith, l, h.degree)) in omega (arith, same));
-    tuples = λ d l y above.
+    values = λ d y l below long.
         let within : d ≤ D = omega (arith, l, h.degree) in
         let hold = h.families d within in
-        let is : IsGraph s.graph = subst IsGraph (sym h.graph) on.graph in
-        let high = IsAbove-higher s.graph is y (next_vertex s) (above_from_test s.graph (next_vertex s) y above) in
-        let own : level_vertices s.graph (suc k) y = (high.is_vertex, omega (arith, high.longer, here)) in
+        let own : level_vertices s.graph (suc k) y = (below, omega (arith, long)) in
         let inside : level_vertices G (suc k) y =
         subst (λ (H : Graph). level_vertices H (suc k) y) h.graph own in
         let same = hold.same (filled h) (continues h) in
@@ -338,8 +352,23 @@ module _
         };
   }
 
-  module _ {new : SheafState A} {part : VertexPart} (built : IsBuiltPart s new (list_at families counts) part)
-      (held : IsHeldPart part) where
+  module _ (left : length s.stalks < vertex_count s.graph) {made : Made A}
+      (over : IsMadeOver (IsBuiltBy families counts) k s (next_vertex s) made) {new : SheafState A}
+      (taken : new ≡ with_stalk s (cert_stalk made.part)) where
+    abbrev part : VertexPart
+    part = made.part
+
+    more_left : length parts < vertex_count G
+    more_left = omega (arith, left, pushed h, own_vertices h)
+
+    next_is : next_vertex s ≡ vertex_count G - 1 - length parts
+    next_is = omega (arith, pushed h, own_vertices h)
+
+    length_here : length_at G (vertex_count G - 1 - length parts) ≡ k
+    length_here =
+        subst (λ (H : Graph). length_at H (vertex_count G - 1 - length parts) ≡ k) h.graph
+        (subst (λ y. length_at s.graph y ≡ k) next_is over.at.long)
+
     one_more : length (parts ++ part ∷ []) ≡ length parts + 1
     one_more = length_push parts part
 
@@ -356,16 +385,11 @@ module _
           ∙ ap (λ (i : ℕ). get_or (parts ++ part ∷ []) i no_part) place
           ∙ get_or_push parts part no_part (length parts) refl in
           record {
-            old = s;
-            new = new;
+            old = over.old;
+            new = made.sheaf;
             lists = list_at families counts;
-            before = record {
-              graph = h.graph;
-              degree = h.degree ∙ sym more.degree;
-              stalks =
-                  h.stalks ∙ ap (map cert_stalk) (sym fewer.begins)
-                  ∙ ap (λ (i : ℕ). map cert_stalk (take i c.parts)) (sym place);
-            };
+            before = subst (λ x. IsBefore G c x over.old) next_is
+                (made_before on.graph h.graph h.degree h.stalks next_is over.at fewer);
             families = λ d l.
                 let within : d ≤ D = omega (arith, l, more.degree) in
                 let f = get_or families d no_family in
@@ -374,8 +398,9 @@ module _
                 (subst (λ n. SameList (level_vertices G (suc k)) (first_members n (list_of f))
                 (family G (parts_sheaf G c) d (top_vertex G) (λ y. block_of c y d) (suc k))) (sym (own_count d within))
                 ((h.families d within).same c fewer));
-            built = subst (λ (p : VertexPart). IsBuiltPart s new (list_at families counts) p) (sym own) built;
-            held = subst IsHeldPart (sym own) held;
+            built = subst (λ (p : VertexPart). IsBuiltPart over.old made.sheaf (list_at families counts) p) (sym own)
+                over.upon.by;
+            held = subst IsHeldPart (sym own) over.upon.held;
           };
     }
 
@@ -387,7 +412,7 @@ module _
         let t = cert_stalk part in
         record {
           holds = subst (λ (u : SheafState A). HoldsLevel u (suc k) d (get_or families d no_family))
-              (sym built.stalk)
+              (sym taken)
               (record {
                 vertices = old.holds.vertices;
                 has = old.holds.has;
@@ -405,10 +430,10 @@ module _
 
     pub down_more : IsBuiltDown G D (suc k) k new (parts ++ part ∷ []) families
     down_more = record {
-      graph = ap (λ (u : SheafState A). u.graph) built.stalk ∙ h.graph;
-      degree = ap (λ (u : SheafState A). u.degree) built.stalk ∙ h.degree;
+      graph = ap (λ (u : SheafState A). u.graph) taken ∙ h.graph;
+      degree = ap (λ (u : SheafState A). u.degree) taken ∙ h.degree;
       stalks =
-          ap (λ (u : SheafState A). u.stalks) built.stalk
+          ap (λ (u : SheafState A). u.stalks) taken
           ∙ ap (λ (l : List Stalk). l ++ cert_stalk part ∷ []) h.stalks ∙ sym (map-append cert_stalk parts (part ∷ []));
       some = omega (arith, one_more);
       few = omega (arith, one_more, more_left);

@@ -2,6 +2,7 @@ pub mod AgreeLemmas
 pub mod HoldingSizes
 pub mod Lines
 pub mod VertexStalks
+pub mod Lengths
 pub mod PassingBlocks
 pub mod BuiltVertices
 pub mod AllLines

@@ -2,12 +2,11 @@
 -- above it, and the sizes and lines that hang on the stalk alone.
 use Rattle.std.proofs.Common.{◌≡◌, ℕ, suc, ◌+◌, ◌-◌, ◌*◌, ◌/◌, ◌%◌, ◌<◌, ◌≤◌, ◌^◌, eqb, List, [], ◌∷◌, ◌++◌, length, get_or, take, map, refl, sym, ap, ap₂, subst, ◌∙◌, inl, inr, arith, true}
 use Rattle.std.specs.Prelude.{All, count_by}
-use Rattle.std.proofs.Math.ListN.{get_or-map}
 use Rattle.std.proofs.lemmas.Bool.{cases_eq, cases_lt}
-use Rattle.std.proofs.lemmas.List.{length-map, length-take-le, get_or-take, take_more, map-append, get_or_default, get_or_past}
+use Rattle.std.proofs.lemmas.List.{get_or_push, get_or_append_left, get_or_default, get_or_past}
 use Rattle.std.proofs.lemmas.List.Elements.{All-get_or, All-weaker}
 use Rattle.std.proofs.lemmas.Nat.{div_below}
-use Rattle.bmp_graph.specs.Graph.{Graph, IsGraph, vertex_count, edge_count, lower, upper}
+use Rattle.bmp_graph.specs.Graph.{Graph, IsGraph, vertex_count, edge_count, length_at, lower, upper}
 use Rattle.bmp_graph.proofs.GraphLemmas.{edge_rises, IsAbove-higher}
 use Rattle.bmp_linear.specs.declared.vector.Entry.{Entry}
 use Rattle.bmp_linear.specs.declared.blocks.DegreeBlock.{DegreeBlock}
@@ -39,22 +38,31 @@ use Rattle.bmp_build.proofs.AgreeLemmas.{AgreeAt}
 use Rattle.bmp_build.proofs.HoldingSizes.{AllHold, none_fails, hold_both, listed_hold, need_from_fits}
 use Rattle.bmp_build.proofs.Lines.{chain_upward, vectors_lines, degrees_lines}
 
--- sheaves that are written down by the same stalks above a vertex
+-- a longer vertex has a greater number
+pub longer_past : (G : Graph) → IsGraph G → (x y : ℕ) → x < vertex_count G → length_at G x < length_at G y → x < y
+longer_past G is x y below long = elim (cases_lt x y) [
+  | inl past ↦ past
+  | inr before ↦ absurd (let rises = is.lengths_rise y x before below in omega (arith, rises, long))
+]
+
+-- sheaves that are written down by the same stalks at the longer vertices
 abbrev pub written_by_stalks : Graph → (ℕ → Stalk) → SheafData
 written_by_stalks G t = written_sheaf G (λ y. (t y).degrees) (λ y. (t y).lifts)
 
 pub agree_by_stalks : (G : Graph) → IsGraph G → (x : ℕ) (t u : ℕ → Stalk) →
-    ((y : ℕ) → x < y → y < vertex_count G → t y ≡ u y) →
+    ((y : ℕ) → x < y → y < vertex_count G → length_at G x < length_at G y → t y ≡ u y) →
     AgreeAbove G x (written_by_stalks G t) (written_by_stalks G u)
 agree_by_stalks G is x t u same = record {
   degrees = λ y here.
       let higher = IsAbove-higher G is y x (above_from_test G x y here) in
-      ap (λ (s : Stalk). s.degrees) (same y higher.number higher.is_vertex);
+      ap (λ (s : Stalk). s.degrees) (same y higher.number higher.is_vertex higher.longer);
   lifts = λ e is_edge here.
       let low = IsAbove-higher G is (lower G e) x (above_from_test G x (lower G e) here) in
-      let below = same (lower G e) low.number low.is_vertex in
+      let ends = is.ends e is_edge in
+      let below = same (lower G e) low.number low.is_vertex low.longer in
       let above =
-      same (upper G e) (omega (arith, edge_rises G is e is_edge, low.number)) (is.ends e is_edge).1 in
+      same (upper G e) (omega (arith, edge_rises G is e is_edge, low.number)) ends.1
+      (omega (arith, low.longer, ends.2)) in
       (written_agree G (λ y. (t y).degrees) (λ y. (u y).degrees) (λ y. (t y).lifts) (λ y. (u y).lifts) e
       (ap (λ (s : Stalk). s.degrees) below) (ap (λ (s : Stalk). s.degrees) above)
       (ap (λ (s : Stalk). s.lifts) below)).lifts;
@@ -73,7 +81,7 @@ module _ {A : Type 0} {G : Graph} {c : Written} (is : IsGraph G) (counted : leng
     graph = G;
     field = old.field;
     degree = c.degree;
-    stalks = map cert_stalk (take (top_vertex G - x) c.parts);
+    stalks = old.stalks;
   }
 
   abbrev pub after : SheafState A
@@ -87,12 +95,6 @@ module _ {A : Type 0} {G : Graph} {c : Written} (is : IsGraph G) (counted : leng
         degree = k;
         stalks = old.stalks;
       } in made) earlier.graph earlier.degree
-      ∙ ap (λ (l : List Stalk). let made : SheafState A = record {
-        graph = G;
-        field = old.field;
-        degree = c.degree;
-        stalks = l;
-      } in made) earlier.stalks
 
   -- what holds of the sheaves in memory holds of these
   pub by_parts : (P : SheafState A → SheafState A → Type 0) → P old new → P before after
@@ -103,62 +105,55 @@ module _ {A : Type 0} {G : Graph} {c : Written} (is : IsGraph G) (counted : leng
   stalk_by_parts : IsPartStalk before after part
   stalk_by_parts = by_parts (λ s t. IsPartStalk s t part) own
 
-  pushed : length (map cert_stalk (take (top_vertex G - x) c.parts)) ≡ top_vertex G - x
-  pushed = length-map (take (top_vertex G - x) c.parts) cert_stalk
-      ∙ length-take-le (top_vertex G - x) c.parts (omega (arith, counted))
-
   pub next_is : next_vertex before ≡ x
-  next_is = omega (arith, pushed, vertex)
+  next_is = omega (arith, earlier.pushed, vertex)
 
-  stalks_are : after.stalks ≡ map cert_stalk (take (top_vertex G - x + 1) c.parts)
-  stalks_are =
-      let i = top_vertex G - x in
-      let here : length c.parts - 1 - x ≡ top_vertex G - x = omega (arith, counted) in
-      ap (λ (k : ℕ). map cert_stalk (take (top_vertex G - x) c.parts) ++ cert_stalk (get_or c.parts k no_part) ∷ [])
-      here
-      ∙ sym (map-append cert_stalk (take i c.parts) (get_or c.parts i no_part ∷ []))
-      ∙ sym (ap (map cert_stalk) (take_more c.parts i no_part (omega (arith, counted, vertex))))
+  -- the stalk at the vertex, and those of the longer ones
 
-  stalk_is : (y : ℕ) → x ≤ y → y < vertex_count G → stalk_of after y ≡ cert_stalk (part_of c y)
-  stalk_is y from below =
-      let k = vertex_count G - 1 - y in
-      ap (λ (l : List Stalk). get_or l k no_stalk) stalks_are
-      ∙ get_or-map cert_stalk (take (top_vertex G - x + 1) c.parts) k no_part
-      ∙ ap cert_stalk (get_or-take (top_vertex G - x + 1) c.parts k no_part (omega (arith, from, below)))
-      ∙ ap (λ (n : ℕ). cert_stalk (get_or c.parts (n - 1 - y) no_part)) (sym counted)
+  own_stalk : stalk_of after x ≡ cert_stalk part
+  own_stalk =
+      get_or_push old.stalks (cert_stalk part) no_stalk (vertex_count G - 1 - x) (omega (arith, earlier.pushed, vertex))
 
-  stalk_before : (y : ℕ) → x < y → y < vertex_count G → stalk_of before y ≡ cert_stalk (part_of c y)
-  stalk_before y from below =
-      let k = vertex_count G - 1 - y in
-      get_or-map cert_stalk (take (top_vertex G - x) c.parts) k no_part
-      ∙ ap cert_stalk (get_or-take (top_vertex G - x) c.parts k no_part (omega (arith, from, below)))
-      ∙ ap (λ (n : ℕ). cert_stalk (get_or c.parts (n - 1 - y) no_part)) (sym counted)
+  stalk_before : (y : ℕ) → y < vertex_count G → length_at G x < length_at G y →
+      stalk_of before y ≡ cert_stalk (part_of c y)
+  stalk_before y below long =
+      ap (λ (H : Graph). get_or old.stalks (vertex_count H - 1 - y) no_stalk) (sym earlier.graph)
+      ∙ earlier.longer y below long
+
+  stalk_after : (y : ℕ) → y < vertex_count G → length_at G x < length_at G y →
+      stalk_of after y ≡ cert_stalk (part_of c y)
+  stalk_after y below long =
+      let past = longer_past G is x y (omega (arith, vertex)) long in
+      get_or_append_left old.stalks (cert_stalk part ∷ []) no_stalk (vertex_count G - 1 - y)
+      (omega (arith, past, below, earlier.pushed))
+      ∙ stalk_before y below long
 
   -- ---- the sheaf of all parts agrees with it
 
   pub agree : AgreeAt G x (parts_sheaf G c) (sheaf_of after)
   agree =
-      let same : (y : ℕ) → x ≤ y → y < vertex_count G → (part_of c y).degrees ≡ (stalk_of after y).degrees =
-      λ y from below. ap (λ (t : Stalk). t.degrees) (sym (stalk_is y from below)) in
+      let own : (part_of c x).degrees ≡ (stalk_of after x).degrees =
+      ap (λ (t : Stalk). t.degrees) (sym own_stalk) in
       let upper_end : (e : ℕ) → e < edge_count G → lower G e ≡ x →
       (part_of c (upper G e)).degrees ≡ (stalk_of after (upper G e)).degrees =
       λ e is_edge here.
-      let rises : lower G e < upper G e = edge_rises G is e is_edge in
-      same (upper G e) (omega (arith, rises, here)) (is.ends e is_edge).1 in
+      let ends = is.ends e is_edge in
+      ap (λ (t : Stalk). t.degrees)
+      (sym (stalk_after (upper G e) ends.1 (subst (λ y. length_at G y < length_at G (upper G e)) here ends.2))) in
       record {
-        own = same x (omega arith) (omega (arith, vertex));
+        own = own;
         upper_ends = upper_end;
         lifts = λ e is_edge here.
             (written_agree G (λ y. (part_of c y).degrees) (λ y. (stalk_of after y).degrees)
             (λ y. (part_of c y).lifts) (λ y. (stalk_of after y).lifts) e
-            (same (lower G e) (omega (arith, here)) (omega (arith, here, vertex))) (upper_end e is_edge here)
-            (ap (λ (t : Stalk). t.lifts)
-            (sym (stalk_is (lower G e) (omega (arith, here)) (omega (arith, here, vertex)))))).lifts;
+            (subst (λ y. (part_of c y).degrees ≡ (stalk_of after y).degrees) (sym here) own) (upper_end e is_edge here)
+            (subst (λ y. (part_of c y).lifts ≡ (stalk_of after y).lifts) (sym here)
+            (ap (λ (t : Stalk). t.lifts) (sym own_stalk)))).lifts;
       }
 
   pub agree_above : AgreeAbove G x (parts_sheaf G c) (sheaf_of after)
   agree_above = agree_by_stalks G is x (λ y. cert_stalk (part_of c y)) (stalk_of after)
-      (λ y past below. sym (stalk_is y (omega (arith, past)) below))
+      (λ y past below long. sym (stalk_after y below long))
 
   has_blocks : length part.blocks ≡ c.degree + 1
   has_blocks = stalk_by_parts.blocks
@@ -172,7 +167,8 @@ module _ {A : Type 0} {G : Graph} {c : Written} (is : IsGraph G) (counted : leng
   abbrev end_of : ℕ → ℕ
   end_of i = upper G (first_edge G x + i / length part.degrees)
 
-  end_above : (i : ℕ) → i < length part.lifts → (x < end_of i) × (end_of i < vertex_count G)
+  end_above : (i : ℕ) → i < length part.lifts →
+      (end_of i < vertex_count G) × (length_at G x < length_at G (end_of i))
   end_above i within =
       let k = length part.degrees in
       let all : i < up_count G x * k = omega (arith, within, is_stalk.counted) in
@@ -181,8 +177,8 @@ module _ {A : Type 0} {G : Graph} {c : Written} (is : IsGraph G) (counted : leng
       let range = up_range_of G is x in
       let is_edge : e < edge_count G = omega (arith, range.within, place) in
       let starts : lower G e ≡ x = range.inside e (omega arith) (omega (arith, place)) in
-      let rises : lower G e < upper G e = edge_rises G is e is_edge in
-      (omega (arith, rises, starts), (is.ends e is_edge).1)
+      let ends = is.ends e is_edge in
+      (ends.1, subst (λ y. length_at G y < length_at G (upper G e)) starts ends.2)
     where
       positive : (m k j : ℕ) → j < m * k → 0 < k
       positive m k j below = elim (cases_eq k 0) [
@@ -233,7 +229,7 @@ module _ {A : Type 0} {G : Graph} {c : Written} (is : IsGraph G) (counted : leng
     lifts_fit : All (λ v. FitsBelow v (2 ^ 32)) part.lifts
     lifts_fit i none within =
         let small : room i < 2 ^ 32 = few (end_of i)
-        (get_or part.degrees (i % length part.degrees) 0) (end_above i within).1 (own_degree i within) in
+        (get_or part.degrees (i % length part.degrees) 0) (end_above i within).0 (own_degree i within) in
         subst (λ (v : List Entry). FitsBelow v (2 ^ 32)) (get_or_default part.lifts i [] none within)
         (All-weaker (λ (e : Entry). e.place < room i) (λ (e : Entry). e.place < 2 ^ 32)
         (λ e l. omega (arith, l, small)) (get_or part.lifts i []) (lift_fits i within))

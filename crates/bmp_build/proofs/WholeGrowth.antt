@@ -1,5 +1,5 @@
--- Blocks by whole spaces beside a stalk that grows: they pass in the sheaf with the stalk, stay as it grows further, and
--- make the part at the end.
+-- Blocks by whole spaces beside a stalk that grows: they pass in the sheaf with the stalk, stay as it grows further,
+-- and make the part at the end.
 use Rattle.std.proofs.Common.{◌≡◌, ℕ, ◌+◌, ◌-◌, ◌<◌, ◌≤◌, List, [], ◌∷◌, ◌++◌, length, get_or, inl, inr, refl, sym, ap, ap₂, subst, ◌∙◌, arith}
 use Rattle.std.specs.Prelude.{All}
 use Rattle.std.proofs.lemmas.Bool.{cases_eq}
@@ -87,7 +87,7 @@ module _ {A : Type 0} {s : SheafState A} {x d : ℕ} {b : DegreeBlock} {t : Stal
     (h : IsBuiltSpace s x d b t) where
   with_it : AgreeAbove s.graph x (with_draft s t) (sheaf_of s)
   with_it = agree_by_stalks s.graph at.state.over.is_graph x (stalk_of (with_stalk s t)) (stalk_of s)
-      (λ y past below. stalk_kept s t at.left y (omega (arith, past, at.next)) below)
+      (λ y past below long. stalk_kept s t at.left y (omega (arith, past, at.next)) below)
 
   pub built_space_passes : IsWholeBlock s.graph (with_draft s t) x d b
   built_space_passes =

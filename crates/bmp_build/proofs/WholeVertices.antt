@@ -1,5 +1,5 @@
--- What was built at one vertex by whole spaces, of the sheaf that all parts write down: its blocks pass, its sizes hold,
--- and it has lines.
+-- What was built at one vertex by whole spaces, of the sheaf that all parts write down: its blocks pass, its sizes
+-- hold, and it has lines.
 use Rattle.std.proofs.Common.{◌≡◌, ℕ, ◌+◌, ◌-◌, ◌<◌, ◌≤◌, ◌^◌, eqb, length, refl, subst, arith}
 use Rattle.std.specs.Prelude.{count_by}
 use Rattle.bmp_graph.specs.Graph.{Graph, vertex_count}

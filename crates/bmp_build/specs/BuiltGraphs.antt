@@ -3,18 +3,19 @@
 --   IsHeldList, IsHeldBlock, IsHeldPart
 --                               what holds of vectors, of a block and of a part in memory by their types: fewer than
 --                               2^32 members, and vectors whose places rise and whose numbers are not 0
---   IsBefore G c x s            the sheaf in memory has the stalks of the vertices above the number x alone
+--   IsBefore G c x s            the sheaf in memory has as many stalks as vertices have numbers above x; those of the
+--                               vertices longer than x are the stalks of their parts, while others may be anything
 --   HasFamilies G c x lists     the lists are, by degree, the families over the vertices longer than x
 --   IsBuiltAt G c x             the part of x was built upon such a sheaf, for such lists, and has the shape of a part
 --   AreBuilt G c                the parts are those of the vertices of the graph, the greatest is top_part, and each
 --                               other was built
 --   BuiltPartsPass              then they have lines, and no comparison fails
-use Rattle.std.specs.Prelude.{◌≡◌, ℕ, suc, ◌+◌, ◌-◌, ◌^◌, ◌<◌, ◌≤◌, List, [], ◌∷◌, All, length, map, take}
+use Rattle.std.specs.Prelude.{◌≡◌, ℕ, suc, ◌+◌, ◌-◌, ◌^◌, ◌<◌, ◌≤◌, List, [], ◌∷◌, All, length}
 use Rattle.bmp_graph.specs.Graph.{Graph, vertex_count, length_at}
 use Rattle.bmp_linear.specs.declared.vector.Entry.{Entry}
 use Rattle.bmp_linear.specs.declared.blocks.DegreeBlock.{DegreeBlock}
 use Rattle.bmp_linear.specs.SparseVectors.{IsSparse}
-use Rattle.bmp_sheaf.specs.States.{SheafState}
+use Rattle.bmp_sheaf.specs.States.{SheafState, stalk_of}
 use Rattle.bmp_sections.specs.TupleLists.{TupleList}
 use Rattle.bmp_levels.specs.Levels.{level_vertices}
 use Rattle.bmp_levels.specs.Lists.{SameList}
@@ -53,11 +54,13 @@ pub record IsHeldPart (part : VertexPart) : Type 0 where
 
 -- ---- how it was built
 
--- the parts go from the greatest vertex down
+-- upon what the part of x was built: edges lead from x to longer vertices alone
 pub record IsBefore (G : Graph) (c : Written) (x : ℕ) {A : Type 0} (s : SheafState A) : Type 0 where
   pub graph : s.graph ≡ G
   pub degree : s.degree ≡ c.degree
-  pub stalks : s.stalks ≡ map cert_stalk (take (top_vertex G - x) c.parts)
+  pub pushed : length s.stalks ≡ top_vertex G - x
+  pub longer :
+      (y : ℕ) → y < vertex_count G → length_at G x < length_at G y → stalk_of s y ≡ cert_stalk (part_of c y)
 
 abbrev pub HasFamilies : Graph → Written → ℕ → (ℕ → TupleList) → Type 0
 HasFamilies G c x lists =

@@ -1,3 +1,4 @@
 pub mod BuiltGraphs
 pub mod Building
 pub mod WholeSpaces
+pub mod Tasks

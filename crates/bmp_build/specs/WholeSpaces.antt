@@ -4,11 +4,12 @@
 --                               which, as of the positions, there are fewer than 2^32, and it passes
 --   IsWholeBlock G F x d b      the kernel evidence of b is such; its cover evidence fits the sections of that basis,
 --                               the stalk and the boundaries at x, and no comparison of it fails
---   IsPartStalk old new part    the sheaf old got the stalk of the part at its next vertex; the part has a block a degree
+--   IsPartStalk old new part    the sheaf old got the stalk of the part at its next vertex; the part has a block a
+--                               degree
 --   IsWholePart old new part    and each of its blocks is such a block
 --   IsSameSheaf s t             the sheaves in memory have the same graph, degree bound and stalks
---   IsBuiltSpace s x d b t      beside the stalk t, which grows upon s at x: the kernel evidence is for the whole space,
---                               and the cover evidence was read off a choice of its sections
+--   IsBuiltSpace s x d b t      beside the stalk t, which grows upon s at x: the kernel evidence is for the whole
+--                               space, and the cover evidence was read off a choice of its sections
 --   IsWholeAt A G c x           the part of x was built upon such a sheaf, and has the shape of a part
 --   AreWhole A G c              the parts are those of the vertices of the graph, the greatest is top_part, and each
 --                               other was built

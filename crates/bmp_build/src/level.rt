@@ -1,19 +1,21 @@
-//! One level: the stalks of the vertices of one length, and then the families over the level.
-ghost use Rattle.std.specs.Prelude.{◌≡◌, ◌↔◌, suc, ◌-◌, ◌<◌, IsTrue, IfOk, OnOk, length};
+//! One level: the stalks of the vertices of one length, at once, and then the families over the level.
+ghost use Rattle.std.specs.Prelude.{◌≡◌, suc, ◌-◌, ◌<◌, ◌≤◌, IfOk, OnOk};
 ghost use Rattle.bmp_graph.specs.Graph.{vertex_count, length_at};
-ghost use Rattle.bmp_sheaf.specs.States.{next_vertex};
 ghost use Rattle.bmp_check.specs.Accepted.{IsCheckableGraph};
 ghost use Rattle.bmp_build.specs.Building.{IsBuiltDown, IsLevelThere, AreCounts};
+ghost use Rattle.bmp_build.specs.Tasks.{HaveMembersOver, IsBuiltBy, IsLengthMade};
 
-use crate::held::read_part;
 use crate::level_parts::LevelParts;
+use crate::level_tasks::LevelTasks;
+use crate::tasks::MadeStalk;
 use bmp_cert::Parts;
 use bmp_field::Field;
 use bmp_levels::Family;
 use bmp_linear::RowSpace;
+use bmp_par::{Gate, run_tasks};
 use bmp_sheaf::Sheaf;
-use bmp_stalk::build_stalk;
 use std::alloc::{AllocError, Global};
+use std::thread::Threads;
 
 /// The numbers of members.
 pub(crate) fn counts_of(alloc: Global, families: &[Family]) -> Result<Vec<u32>, AllocError>
@@ -27,28 +29,49 @@ pub(crate) fn counts_of(alloc: Global, families: &[Family]) -> Result<Vec<u32>, 
     Ok(counts)
 }
 
-/// The length of the next vertex.
-pub(crate) fn next_length<F: Field>(sheaf: &Sheaf<F>) -> u32
-    requires { length sheaf.now.stalks < vertex_count sheaf.now.graph }
-    ensures { result ≡ length_at sheaf.now.graph (next_vertex sheaf.now) }
+/// Builds the stalks of the vertices of length `k`, the length of the next vertex, where those of all longer ones are
+/// there: at once, a task for each vertex. The sheaf is as before.
+fn level_stalks<F: Field + Drop + Send + Sync, A: RowSpace<F> + Send + Sync, G: Gate>(
+    rt: &(impl Threads + Sync),
+    alloc: Global,
+    sheaf: &mut Sheaf<F>,
+    k: u32,
+    families: &[Family],
+    counts: &[u32],
+    rows: &A,
+    workers: u32,
+    gate: &G,
+) -> Result<Vec<MadeStalk<F>>, AllocError>
+where
+    F::E: Send + Sync,
+    requires on { IsCheckableGraph sheaf.old.graph }
+    requires members { HaveMembersOver k sheaf.old families.now counts.now }
+    requires workers { (1 ≤ workers) × (workers ≤ 32) }
+    ensures made { IfOk result
+        (λ made. IsLengthMade (IsBuiltBy families.now counts.now) k sheaf.old made.items) }
+    ensures sheaf { OnOk result (sheaf.new ≡ sheaf.old) }
 {
-    let graph = sheaf.graph();
-    graph.length(graph.vertices() - 1 - sheaf.pushed())
+    let longer = sheaf.pushed();
+    let count = sheaf.open_length(k)?;
+    let tasks = LevelTasks {
+        alloc,
+        sheaf,
+        low: sheaf.graph().vertices() - sheaf.pushed(),
+        count,
+        families,
+        counts,
+        rows,
+    };
+    let made = run_tasks(rt, alloc, &tasks, count, workers, gate)?;
+    let closed = sheaf.first(longer)?;
+    *sheaf = closed;
+    Ok(made)
 }
 
-/// Whether there is a next vertex, and it has length `k`.
-fn is_next<F: Field>(sheaf: &Sheaf<F>, k: u32) -> bool
-    ensures { IsTrue result ↔ ((length sheaf.now.stalks < vertex_count sheaf.now.graph)
-        × (length_at sheaf.now.graph (next_vertex sheaf.now) ≡ k)) }
-{
-    let graph = sheaf.graph();
-    let pushed = sheaf.pushed();
-    pushed < graph.vertices() && graph.length(graph.vertices() - 1 - pushed) == k
-}
-
-/// Builds the parts of the vertices of length `k`, where those of all longer ones are there, in rows that are kept as
-/// `rows` are.
-pub(crate) fn build_level<F: Field, A: RowSpace<F>>(
+/// Builds the parts of the vertices of length `k`, the length of the next vertex, where those of all longer ones are
+/// there, in rows that are kept as `rows` are.
+pub(crate) fn build_level<F: Field + Drop + Send + Sync, A: RowSpace<F> + Send + Sync, G: Gate>(
+    rt: &(impl Threads + Sync),
     alloc: Global,
     sheaf: &mut Sheaf<F>,
     k: u32,
@@ -56,18 +79,23 @@ pub(crate) fn build_level<F: Field, A: RowSpace<F>>(
     counts: &[u32],
     rows: &A,
     parts: &mut Parts,
+    workers: u32,
+    gate: &G,
 ) -> Result<(), AllocError>
+where
+    F::E: Send + Sync,
     requires on { IsCheckableGraph sheaf.old.graph }
     requires down { IsBuiltDown sheaf.old.graph sheaf.old.degree (suc k) k sheaf.old parts.old families.now }
     requires counts { AreCounts families.now counts.now }
+    requires workers { (1 ≤ workers) × (workers ≤ 32) }
     ensures down { OnOk result
         (IsBuiltDown sheaf.old.graph sheaf.old.degree (suc k) k sheaf.new parts.new families.now) }
     ensures level { OnOk result (IsLevelThere sheaf.old.graph k parts.new) }
 {
-    'vertices: while is_next(sheaf, k) {
-        let part = build_stalk(alloc, sheaf, families, counts, rows)?;
-        read_part(&part);
-        parts.push(part)?;
+    let mut made = level_stalks(rt, alloc, sheaf, k, families, counts, rows, workers, gate)?;
+    'vertices: while let Some(stalk) = made.pop() {
+        sheaf.adopt(&stalk.sheaf)?;
+        parts.push(stalk.part)?;
     }
     Ok(())
 }

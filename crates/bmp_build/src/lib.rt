@@ -6,8 +6,11 @@ mod held;
 pub mod laws;
 mod level;
 mod level_parts;
+mod level_tasks;
 mod levels;
+mod space_tasks;
 mod start;
+mod tasks;
 mod version;
 mod whole;
 mod whole_space;
@@ -15,4 +18,4 @@ mod whole_spaces;
 mod whole_stalk;
 
 pub use version::level_version;
-pub use whole::{build, build_graph};
+pub use whole::{build, build_graph, build_graph_with, build_with};

@@ -1,7 +1,9 @@
-//! Certificates that are built, against the numbers of generators of files that other builders made, and those by whole
-//! spaces against those by levels.
+//! Certificates that are built, against the numbers of generators of files that other builders made, those by whole
+//! spaces against those by levels, and those of several workers against those of one.
+ghost use Rattle.std.specs.Prelude.{◌≤◌};
+
 use bmp_build::{build, level_version};
-use bmp_cert::{Accepted, Cert, Lattice, Ranks, accept_job, read_job};
+use bmp_cert::{Accepted, Cert, Lattice, Ranks, accept_job, print_cert, read_job};
 use bmp_check::check;
 use std::alloc::Global;
 use std::test::Fail;
@@ -100,6 +102,44 @@ fn versions_agree(rt: HostRuntime) -> Result<(), Fail> {
                     "vertex {x} degree {d}"
                 );
             }
+        }
+    }
+    Ok(())
+}
+
+/// The text of the certificate that so many workers build for a job, of version 1 or of one by levels.
+fn built_text(
+    rt: &(impl Threads + Sync),
+    alloc: Global,
+    text: &str,
+    whole: bool,
+    workers: u32,
+) -> Result<Vec<u8>, Fail>
+    requires { (1 ≤ workers) × (workers ≤ 32) }
+{
+    let job = read_job(alloc, text.as_bytes())?;
+    let a = accept_job(alloc, &job)?;
+    let cert = match job.lattice {
+        Lattice::Plain if whole => build(rt, alloc, &a, 1, workers)?,
+        lattice => build(rt, alloc, &a, level_version(lattice), workers)?,
+    };
+    Ok(print_cert(alloc, &cert)?)
+}
+
+#[test]
+fn any_number_of_workers(rt: HostRuntime) -> Result<(), Fail> {
+    for (text, whole) in [
+        (A3, true),
+        (B3, true),
+        (A3, false),
+        (A3_ROOT, false),
+        (B3, false),
+        (D4, false),
+    ] {
+        let one = built_text(&rt, rt.alloc(), text, whole, 1)?;
+        for workers in [2, 7, 32] {
+            let several = built_text(&rt, rt.alloc(), text, whole, workers)?;
+            assert!(rt; several == one, "{workers} workers");
         }
     }
     Ok(())

@@ -1,8 +1,8 @@
 //! Whole checks by several workers: each passes the gate once, and two of them are at work at once.
 use crate::gates::{Counter, Meeting};
+use crate::runs::ended;
 use bmp_par::Gate;
-use bmp_ports::{MemSink, MemSource};
-use bmp_program::{Status, run_with};
+use bmp_program::Status;
 use std::alloc::Global;
 use std::test::Fail;
 use std::thread::Threads;
@@ -58,14 +58,13 @@ fn check_square<G: Gate>(
     workers: &str,
     gate: &G,
 ) -> Result<Status, Fail> {
-    let mut words = Vec::new(alloc);
-    for word in ["bmp", "check", "--workers", workers] {
-        words.push(String::from_str(alloc, word)?)?;
-    }
-    let bytes = Vec::from_slice(alloc, SQUARE.as_bytes())?;
-    let mut source = MemSource::new(bytes, usize::MAX, Vec::new(alloc));
-    let mut sink = MemSink::new(alloc, usize::MAX, Vec::new(alloc));
-    Ok(run_with(rt, alloc, &words, &mut source, &mut sink, gate))
+    ended(
+        rt,
+        alloc,
+        &["bmp", "check", "--workers", workers],
+        SQUARE,
+        gate,
+    )
 }
 
 #[test]

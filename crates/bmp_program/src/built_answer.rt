@@ -10,7 +10,7 @@ ghost use Rattle.bmp_program.specs.Runs.{answer_view};
 use crate::Status;
 use crate::answer::{Answer, made};
 use crate::job_answer::fault_answer;
-use bmp_build::{build, level_version};
+use bmp_build::{build_with, level_version};
 use bmp_cert::{Accepted, Cert, CertError, Job, JobError, Ranks, accept_job, print_cert, read_job};
 use bmp_check::{CheckError, check_with};
 use bmp_par::Gate;
@@ -19,11 +19,12 @@ use std::alloc::{AllocError, Global};
 use std::thread::Threads;
 
 /// A certificate of an accepted job.
-pub(crate) fn built(
+pub(crate) fn built<G: Gate>(
     rt: &(impl Threads + Sync),
     alloc: Global,
     accepted: &Accepted,
     workers: u32,
+    gate: &G,
 ) -> Result<Cert, AllocError>
     requires formed { IsWellFormedJob (job_of (prepared_of accepted.now)) }
     requires graph { IsJobGraph (job_of (prepared_of accepted.now)) (graph_of (prepared_of accepted.now)) }
@@ -31,12 +32,13 @@ pub(crate) fn built(
     ensures { IfOk result
         (IsBuiltCert (job_of (prepared_of accepted.now)) (graph_of (prepared_of accepted.now))) }
 {
-    build(
+    build_with(
         rt,
         alloc,
         accepted,
         level_version(accepted.job().lattice),
         workers,
+        gate,
     )
 }
 
@@ -61,11 +63,12 @@ pub(crate) fn checked<G: Gate>(
 }
 
 // What `build` answers to a job.
-fn build_answer(
+fn build_answer<G: Gate>(
     rt: &(impl Threads + Sync),
     alloc: Global,
     j: &Job,
     workers: u32,
+    gate: &G,
 ) -> Result<Answer, AllocError>
     requires formed { IsWellFormedJob j.now }
     requires workers { (1 ≤ workers) × (workers ≤ 32) }
@@ -73,7 +76,7 @@ fn build_answer(
 {
     match accept_job(alloc, j) {
         Ok(accepted) => {
-            let cert = built(rt, alloc, &accepted, workers)?;
+            let cert = built(rt, alloc, &accepted, workers, gate)?;
             let text = print_cert(alloc, &cert)?;
             Ok(made(Status::Done, text))
         }
@@ -99,7 +102,7 @@ fn ranks_answer<G: Gate>(
 {
     match accept_job(alloc, j) {
         Ok(accepted) => {
-            let cert = built(rt, alloc, &accepted, workers)?;
+            let cert = built(rt, alloc, &accepted, workers, gate)?;
             let ranks = checked(rt, alloc, &accepted, &cert, workers, gate)?;
             let text = ranks_text(alloc, &ranks)?;
             Ok(made(Status::Done, text))
@@ -126,7 +129,7 @@ pub(crate) fn report_sample<G: Gate>(
     let job = sample_job(alloc, seed)?;
     match accept_job(alloc, &job) {
         Ok(accepted) => {
-            let cert = built(rt, alloc, &accepted, workers)?;
+            let cert = built(rt, alloc, &accepted, workers, gate)?;
             let ranks = checked(rt, alloc, &accepted, &cert, workers, gate)?;
             let text = summary_text(alloc, seed, &accepted, &ranks)?;
             Ok(made(Status::Done, text))
@@ -140,17 +143,18 @@ pub(crate) fn report_sample<G: Gate>(
 }
 
 /// What `build` answers to an input.
-pub(crate) fn report_build(
+pub(crate) fn report_build<G: Gate>(
     rt: &(impl Threads + Sync),
     alloc: Global,
     input: &[u8],
     workers: u32,
+    gate: &G,
 ) -> Result<Answer, AllocError>
     requires { (1 ≤ workers) × (workers ≤ 32) }
     ensures { IfOk result (λ a. JobTextReport BuildReport input.now (answer_view a).status (answer_view a).text) }
 {
     match read_job(alloc, input) {
-        Ok(job) => build_answer(rt, alloc, &job, workers),
+        Ok(job) => build_answer(rt, alloc, &job, workers, gate),
         Err(CertError::Text(fault)) => Ok(made(Status::BadText, text_line(alloc, &fault)?)),
         Err(CertError::Memory) => Err(AllocError),
     }

@@ -37,7 +37,7 @@ fn compared<G: Gate>(
     ensures { IfOk result (λ v. IsBuiltComparison (job_of (prepared_of accepted.now))
         (graph_of (prepared_of accepted.now)) (coefficient_of table.now) (sum_of table.now) v.items) }
 {
-    let cert = built(rt, alloc, accepted, workers)?;
+    let cert = built(rt, alloc, accepted, workers, gate)?;
     let ranks = checked(rt, alloc, accepted, &cert, workers, gate)?;
     let text = compare_text(alloc, &ranks, table)?;
     Ok(text)

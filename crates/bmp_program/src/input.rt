@@ -37,7 +37,7 @@ fn report_on<G: Gate>(
         CommandWord::Graph => report_graph(alloc, &input),
         CommandWord::Gkm => report_gkm(alloc, &input),
         CommandWord::Kl => report_kl(alloc, &input),
-        CommandWord::Build => report_build(rt, alloc, &input, request.workers),
+        CommandWord::Build => report_build(rt, alloc, &input, request.workers, gate),
         CommandWord::Ranks => report_ranks(rt, alloc, &input, request.workers, gate),
         CommandWord::Compare => report_compare(rt, alloc, &input, request.workers, gate),
         CommandWord::Sample => unreachable!(),

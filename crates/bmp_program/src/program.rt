@@ -95,7 +95,8 @@ pub fn run<S: Source, K: Sink>(
     run_with(rt, alloc, words, source, sink, &OpenGate)
 }
 
-/// The same with a gate, which each worker passes before its part of a check.
+/// The same with a gate, which is passed before each vertex but the greatest is built, and by each worker before its
+/// part of a check.
 pub fn run_with<S: Source, K: Sink, G: Gate>(
     rt: &(impl Threads + Sync),
     alloc: Global,

@@ -22,7 +22,7 @@ levels-init g c =
     (subst (λ n. HasEach (IsTopFamily s) (n + 1) items) c.in_ok-sheaf.ensures.degree c.in_ok-families.ensures))
 
 pub build_level-requires-clause-down : goal.build_level-requires-clause-down
-build_level-requires-clause-down g c =
+build_level-requires-clause-down g c κs within =
     let k = c.next_length-k.result in
     let left : length c.levels.parts < vertex_count c.args.graph.now =
     omega (

@@ -16,7 +16,8 @@ build_degree-requires-clause-tuples g c =
     space_has_tuples c.requires.drafted.next
     (in_same c.requires.above (λ H S. IsWholeSpace H S c.args.x c.args.d c.in_ok-space.space.kernel)
     c.in_ok-space.ensures.kernel)
-    (same_sections c.requires.above c.args.x c.args.d c.in_ok-space.space.kernel.basis (tuples_read list.sheaf list.vertex list.degree list.vectors))
+    (same_sections c.requires.above c.args.x c.args.d c.in_ok-space.space.kernel.basis
+    (tuples_read list.sheaf list.vertex list.degree list.vectors))
 
 pub returns-clause-built : goal.returns-clause-built
 returns-clause-built g c =
@@ -28,7 +29,8 @@ returns-clause-built g c =
           c.in_ok-space.ensures.kernel;
       choice = built.block;
       built = subst (λ (l : TupleList). IsBuiltDegree s c.args.x c.args.d l built.block built.draft)
-          (same_sections c.requires.above c.args.x c.args.d c.in_ok-space.space.kernel.basis (tuples_read list.sheaf list.vertex list.degree list.vectors))
+          (same_sections c.requires.above c.args.x c.args.d c.in_ok-space.space.kernel.basis
+          (tuples_read list.sheaf list.vertex list.degree list.vectors))
           c.in_ok-built.ensures.built;
       cover = refl;
     }

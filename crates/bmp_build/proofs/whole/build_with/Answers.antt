@@ -7,16 +7,16 @@ use Rattle.bmp_cert.specs.Versions.{IsVersionOf}
 use Rattle.bmp_check.specs.Accepted.{IsCheckableGraph}
 use Rattle.bmp_build.proofs.Accepting.{is_well_formed, prime_is, on_accepted}
 use Rattle.bmp_build.proofs.KeptRules.{job_is_formed}
-use Rattle.bmp_build.proofs.whole.build.Goals as goal
+use Rattle.bmp_build.proofs.whole.build_with.Goals as goal
 
-pub build_graph-requires-clause-on : goal.build_graph-requires-clause-on
-build_graph-requires-clause-on g c = λ ks lives.
+pub build_graph_with-requires-clause-on : goal.build_graph_with-requires-clause-on
+build_graph_with-requires-clause-on g c = λ ks lives.
     let p = c.args.a.now.prepared in
     subst IsCheckableGraph (sym c.graph.ensures.value)
     (on_accepted p.prepared c.args.version c.args.a.now.keeps c.requires.version).0
 
-pub build_graph-requires-clause-degree : goal.build_graph-requires-clause-degree
-build_graph-requires-clause-degree g c = λ ks lives.
+pub build_graph_with-requires-clause-degree : goal.build_graph_with-requires-clause-degree
+build_graph_with-requires-clause-degree g c = λ ks lives.
     let p = c.args.a.now.prepared in
     let same : c.from-degree.result ≡ p.job.degree =
     c.from-degree.ensures ∙ ap (λ (j : Job). j.degree) (c.in_ok-job.ensures ∙ c.job.ensures) in

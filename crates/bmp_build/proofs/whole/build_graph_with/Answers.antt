@@ -3,7 +3,7 @@ use Rattle.bmp_cert.specs.CertGrammar.{HavePartLines}
 use Rattle.bmp_check.specs.Verdicts.{Passes}
 use Rattle.bmp_build.proofs.AllPassing.{built_parts_pass}
 use Rattle.bmp_build.proofs.WholePassing.{whole_parts_pass}
-use Rattle.bmp_build.proofs.whole.build_graph.Goals as goal
+use Rattle.bmp_build.proofs.whole.build_graph_with.Goals as goal
 
 pub returns-then-version-eq1-clause-formed : goal.returns-then-version-eq1-clause-formed
 returns-then-version-eq1-clause-formed g c =
