@@ -119,11 +119,16 @@ fn built_text(
 {
     let job = read_job(alloc, text.as_bytes())?;
     let a = accept_job(alloc, &job)?;
-    let cert = match job.lattice {
-        Lattice::Plain if whole => build(rt, alloc, &a, 1, workers)?,
-        lattice => build(rt, alloc, &a, level_version(lattice), workers)?,
-    };
-    Ok(print_cert(alloc, &cert)?)
+    match job.lattice {
+        Lattice::Plain if whole => {
+            let cert = build(rt, alloc, &a, 1, workers)?;
+            Ok(print_cert(alloc, &cert)?)
+        }
+        lattice => {
+            let cert = build(rt, alloc, &a, level_version(lattice), workers)?;
+            Ok(print_cert(alloc, &cert)?)
+        }
+    }
 }
 
 #[test]
