@@ -1,5 +1,5 @@
--- The chosen rows, reduced to the end: a change after a trace, and the first columns of the trace.
-use Rattle.std.proofs.Common.{ℕ, ◌*◌, ◌%◌, ◌<◌, List, length, refl, sym, ap, ◌∙◌}
+-- The chosen rows, reduced to the end: a change after a trace.
+use Rattle.std.proofs.Common.{ℕ, ◌*◌, ◌%◌, ◌<◌, List, refl, sym, ap, ◌∙◌}
 use Rattle.bmp_math.specs.Matrices.{Matrix, SameMatrix, combination, image, IsInKernel}
 use Rattle.bmp_math.proofs.CongruenceLemmas.{same_mul}
 use Rattle.bmp_math.proofs.SumLemmas.{sum_same_mod}
@@ -7,7 +7,7 @@ use Rattle.bmp_math.proofs.MatrixLemmas.{combination-combination}
 use Rattle.bmp_elim.specs.Traces.{IsTrace, AreChangedAlike}
 use Rattle.bmp_elim.specs.Steps.{IsEliminated}
 use Rattle.bmp_elim.specs.Eliminations.{IsReducedOf}
-use Rattle.bmp_elim.specs.GrowingBases.{chosen_rows, narrowed, IsGrown}
+use Rattle.bmp_elim.specs.GrowingBases.{chosen_rows, IsGrown}
 use Rattle.bmp_elim.proofs.EndLemmas.{trace_moves}
 use Rattle.bmp_elim.proofs.TraceLemmas.{trace_same}
 use Rattle.bmp_math.specs.Congruences.{SameMod}
@@ -56,11 +56,11 @@ module _ (p : ℕ) (old a t new_a new_t : Matrix) (h : IsTrace p old a t) (alike
 
 -- the chosen rows, reduced from where they stood
 pub chosen_reduced : {p : ℕ} {old a t first new_a new_t : Matrix} {ps chosen pivots : List ℕ} {count : ℕ} →
-    IsGrown p old a t ps chosen count → SameMatrix first (narrowed (length chosen) t) →
+    IsGrown p old a t ps chosen count → SameMatrix first t →
     IsEliminated p a.cols a new_a first new_t pivots → IsReducedOf p (chosen_rows chosen old) new_a new_t pivots
 chosen_reduced {p} {old} {a} {t} {first} {new_a} {new_t} {ps} {chosen} {pivots} grown same done =
     let C : Matrix = chosen_rows chosen old in
-    let trace : IsTrace p C a first = trace_same p C a (narrowed (length chosen) t) first same.rows same.cols
+    let trace : IsTrace p C a first = trace_same p C a t first same.rows same.cols
     (λ i j l m. ap (λ z. z % p) (same.entries i j l m)) grown.trace in
     record {
       trace = trace_after p C a first new_a new_t trace done.alike;

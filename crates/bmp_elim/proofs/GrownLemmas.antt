@@ -17,8 +17,8 @@ use Rattle.bmp_linear.specs.RowChanges.{IsRowPushed}
 use Rattle.bmp_linear.proofs.RowVectorLemmas.{values_from_numbers}
 use Rattle.bmp_elim.specs.Traces.{IsTrace}
 use Rattle.bmp_elim.specs.Extensions.{AreChosen}
-use Rattle.bmp_elim.specs.GrowingBases.{chosen_rows, narrowed, IsRowCombination, HasLeading, IsGrown, IsRemainder, IsFirstPlace, IsMultiplied, IsPivotPushed, IsNegated, WritesRow}
-use Rattle.bmp_elim.proofs.GrowthLemmas.{extended, combination_more, leading_narrow}
+use Rattle.bmp_elim.specs.GrowingBases.{chosen_rows, IsRowCombination, HasLeading, IsGrown, IsRemainder, IsFirstPlace, IsMultiplied, IsPivotPushed, IsNegated, WritesRow}
+use Rattle.bmp_elim.proofs.GrowthLemmas.{extended, combination_more}
 
 -- a term goes to the other side as its minus
 minus_sum : (p x y z : ℕ) → 2 ≤ p → SameMod p (x + y) z → SameMod p x (z + (p - 1) * y)
@@ -123,8 +123,6 @@ module _ {p : ℕ} {old new a t : Matrix} {ps chosen w u : List ℕ} {count : �
     };
     leading = h.leading;
     trace = trace_from_same (chosen_same pushed h.choice) h.trace;
-    width = h.width;
-    zero_after = h.zero_after;
     numbers = h.numbers;
     trace_numbers = h.trace_numbers;
     written = λ i l. elim (cases_eq i old.rows) [
@@ -145,9 +143,9 @@ module _ {p : ℕ} {old new a t : Matrix} {ps chosen w u : List ℕ} {count : �
   height = sym h.trace.rows
 
   -- what the remainder is of the chosen rows
-  remainder_chosen : a.rows ≤ a.cols → (j : ℕ) → j < old.cols →
+  remainder_chosen : (j : ℕ) → j < old.cols →
       SameMod p (get_or w j 0) (v j + combination (λ l. get_or u l 0) (chosen_rows chosen old).entry (length chosen) j)
-  remainder_chosen low j b =
+  remainder_chosen j b =
       let C = chosen_rows chosen old in
       let inside : j < a.cols = rw h.trace.cols b in
       let n : ℕ = length ps in
@@ -166,7 +164,7 @@ module _ {p : ℕ} {old new a t : Matrix} {ps chosen w u : List ℕ} {count : �
       sum_same_mod p (λ l. combination left.factors t.entry n l * C.entry l j) (λ l. get_or u l 0 * C.entry l j) (length
       chosen)
       (λ l m. same_mul p (combination left.factors t.entry n l) (get_or u l 0) (C.entry l j) (C.entry l j)
-      (sym (left.factors_left l (omega (arith, m, height, low, h.width)))) refl) in
+      (sym (left.factors_left l (rw h.trace.trace_cols m))) refl) in
       left.left j inside
       ∙ same_add p (v j) (v j) (combination left.factors a.entry n j) (combination (λ l. get_or u l 0) C.entry (length
       chosen) j) refl (by_trace ∙ ap (λ z. z % p) turned ∙ by_factors)
@@ -178,322 +176,304 @@ module _ {p : ℕ} {old new a t : Matrix} {ps chosen w u : List ℕ} {count : �
       let x : ℕ = combination (λ l. get_or u l 0) (chosen_rows chosen old).entry (length chosen) j in
       let inside : j < length w = rw (width, h.trace.cols) b in
       let zero_left : get_or w j 0 ≡ 0 = none j inside in
-      minus_sum p (v j) x (get_or w j 0) two (sym (remainder_chosen (leading_narrow h.leading) j b))
+      minus_sum p (v j) x (get_or w j 0) two (sym (remainder_chosen j b))
       ∙ ap (λ z. (z + (p - 1) * x) % p) zero_left
       ∙ ap (λ z. z % p) (zero_plus ((p - 1) * x) ∙ sym (combination_scaled (p - 1) (λ l. get_or u l 0) (chosen_rows
       chosen old).entry (length chosen) j))
 
-  module _ (few : a.rows < a.cols) where
-    module _ {q : ℕ} {new_a new_t : Matrix} (first : IsFirstPlace w q)
-        (wide : length w ≡ a.cols) (more : IsPivotPushed p q w u a t new_a new_t) where
-      abbrev chosen_more : List ℕ
-      chosen_more = chosen ++ count ∷ []
+  module _ {q : ℕ} {new_a new_t : Matrix} (first : IsFirstPlace w q)
+      (wide : length w ≡ a.cols) (more : IsPivotPushed p q w u a t new_a new_t) where
+    abbrev chosen_more : List ℕ
+    chosen_more = chosen ++ count ∷ []
 
-      abbrev places : List ℕ
-      places = ps ++ q ∷ []
+    abbrev places : List ℕ
+    places = ps ++ q ∷ []
 
-      abbrev old_rows : Matrix
-      old_rows = chosen_rows chosen old
+    abbrev old_rows : Matrix
+    old_rows = chosen_rows chosen old
 
-      abbrev new_rows : Matrix
-      new_rows = chosen_rows chosen_more new
+    abbrev new_rows : Matrix
+    new_rows = chosen_rows chosen_more new
 
-      chosen_count : length chosen_more ≡ a.rows + 1
-      chosen_count = simp length-append (omega (arith, height))
+    chosen_count : length chosen_more ≡ a.rows + 1
+    chosen_count = simp length-append (omega (arith, height))
 
-      place_count : length places ≡ a.rows + 1
-      place_count = simp length-append (omega (arith, h.leading.one_for_each))
+    place_count : length places ≡ a.rows + 1
+    place_count = simp length-append (omega (arith, h.leading.one_for_each))
 
-      place_before : (k : ℕ) → k < a.rows → get_or places k 0 ≡ get_or ps k 0
-      place_before k l = get_or_append_left ps (q ∷ []) 0 k (rw h.leading.one_for_each l)
+    place_before : (k : ℕ) → k < a.rows → get_or places k 0 ≡ get_or ps k 0
+    place_before k l = get_or_append_left ps (q ∷ []) 0 k (rw h.leading.one_for_each l)
 
-      place_last : get_or places a.rows 0 ≡ q
-      place_last = get_or_push ps q 0 a.rows h.leading.one_for_each
+    place_last : get_or places a.rows 0 ≡ q
+    place_last = get_or_push ps q 0 a.rows h.leading.one_for_each
 
-      -- the chosen rows are those of before, and the row that came
-      row_before : (k j : ℕ) → k < a.rows → j < old.cols → new_rows.entry k j ≡ old_rows.entry k j
-      row_before k j l b =
-          ap (λ i. new.entry i j) (get_or_append_left chosen (count ∷ []) 0 k (rw height l))
-          ∙ pushed.others (get_or chosen k 0) j (h.choice.below k 0 (rw height l)) b
+    -- the chosen rows are those of before, and the row that came
+    row_before : (k j : ℕ) → k < a.rows → j < old.cols → new_rows.entry k j ≡ old_rows.entry k j
+    row_before k j l b =
+        ap (λ i. new.entry i j) (get_or_append_left chosen (count ∷ []) 0 k (rw height l))
+        ∙ pushed.others (get_or chosen k 0) j (h.choice.below k 0 (rw height l)) b
 
-      row_last : (j : ℕ) → j < old.cols → new_rows.entry a.rows j ≡ v j
-      row_last j b =
-          ap (λ i. new.entry i j) (get_or_push chosen count 0 a.rows height ∙ sym h.as_many) ∙ pushed.pushed j b
+    row_last : (j : ℕ) → j < old.cols → new_rows.entry a.rows j ≡ v j
+    row_last j b =
+        ap (λ i. new.entry i j) (get_or_push chosen count 0 a.rows height ∙ sym h.as_many) ∙ pushed.pushed j b
 
-      -- a combination of them
-      combination_of : (c : ℕ → ℕ) (j : ℕ) → j < old.cols → combination c new_rows.entry (length chosen_more) j ≡
-          combination c old_rows.entry (length chosen) j + c a.rows * v j
-      combination_of c j b =
-          ap (λ n. combination c new_rows.entry n j) chosen_count
-          ∙ sum_below_more (λ k. c k * new_rows.entry k j) a.rows
-          ∙ ap₂ (λ x y. x + y)
-          (sum_below_same (λ k. c k * new_rows.entry k j) (λ k. c k * old_rows.entry k j) a.rows
-          (λ k l. ap (λ z. c k * z) (row_before k j l b))
-          ∙ ap (λ n. combination c old_rows.entry n j) (sym height))
-          (ap (λ z. c a.rows * z) (row_last j b))
+    -- a combination of them
+    combination_of : (c : ℕ → ℕ) (j : ℕ) → j < old.cols → combination c new_rows.entry (length chosen_more) j ≡
+        combination c old_rows.entry (length chosen) j + c a.rows * v j
+    combination_of c j b =
+        ap (λ n. combination c new_rows.entry n j) chosen_count
+        ∙ sum_below_more (λ k. c k * new_rows.entry k j) a.rows
+        ∙ ap₂ (λ x y. x + y)
+        (sum_below_same (λ k. c k * new_rows.entry k j) (λ k. c k * old_rows.entry k j) a.rows
+        (λ k l. ap (λ z. c k * z) (row_before k j l b))
+        ∙ ap (λ n. combination c old_rows.entry n j) (sym height))
+        (ap (λ z. c a.rows * z) (row_last j b))
 
-      trace_before : (k l : ℕ) → k < a.rows → l < t.cols → new_t.entry k l ≡ t.entry k l
-      trace_before k l m b = more.trace_row.others k l (rw (h.trace.trace_rows ∙ height) m) b
+    trace_height : t.rows ≡ a.rows
+    trace_height = h.trace.trace_rows ∙ height
 
-      trace_height : t.rows ≡ a.rows
-      trace_height = h.trace.trace_rows ∙ height
+    trace_width : t.cols ≡ a.rows
+    trace_width = h.trace.trace_cols ∙ height
 
-      narrow : (l : ℕ) → l < a.rows → l < t.cols
-      narrow l m = omega (arith, few, h.width)
+    new_width : new_t.cols ≡ a.rows + 1
+    new_width = more.trace_row.cols ∙ ap (λ n. n + 1) trace_width
 
-      last_factor : (l : ℕ) → l < a.rows → new_t.entry a.rows l ≡ (more.factor * get_or u l 0) % p
-      last_factor l m =
-          ap (λ k. new_t.entry k l) (sym trace_height) ∙ more.trace_row.pushed l (narrow l m)
-          ∙ ap (λ z. (more.factor * z) % p) (cond-false {A = ℕ} (eqb l a.rows) 1 (get_or u l 0) (ne_eqb l a.rows (λ e.
-          absurd (omega arith))))
+    trace_before : (k l : ℕ) → k < a.rows → l < a.rows → new_t.entry k l ≡ t.entry k l
+    trace_before k l m b = more.trace_row.others k l (rw trace_height m) (rw trace_width b)
 
-      own_factor : new_t.entry a.rows a.rows ≡ more.factor % p
-      own_factor =
-          let one : more.factor * 1 ≡ more.factor = omega arith in
-          ap (λ k. new_t.entry k a.rows) (sym trace_height) ∙ more.trace_row.pushed a.rows (omega (arith, few, h.width))
-          ∙ ap (λ z. (more.factor * z) % p) (cond-true {A = ℕ} (eqb a.rows a.rows) 1 (get_or u a.rows 0) (eq-eqb a.rows
-          a.rows refl))
-          ∙ ap (λ z. z % p) one
+    -- the rows of before need nothing of the row that came
+    trace_above : (k : ℕ) → k < a.rows → new_t.entry k a.rows ≡ 0
+    trace_above k l = ap (new_t.entry k) (sym trace_width) ∙ more.trace_row.zero_above k (rw trace_height l)
 
-      row_made : (j : ℕ) → j < a.cols → new_a.entry a.rows j ≡ (more.factor * get_or w j 0) % p
-      row_made j b = more.row.pushed j b
+    last_factor : (l : ℕ) → l < a.rows → new_t.entry a.rows l ≡ (more.factor * get_or u l 0) % p
+    last_factor l m =
+        ap (λ k. new_t.entry k l) (sym trace_height) ∙ more.trace_row.pushed l (omega (arith, m, trace_width))
+        ∙ ap (λ z. (more.factor * z) % p) (cond-false {A = ℕ} (eqb l t.rows) 1 (get_or u l 0) (ne_eqb l t.rows (λ e.
+        absurd (omega (arith, trace_height)))))
 
-      trace_gives : (i j : ℕ) → i < a.rows + 1 → j < old.cols →
-          SameMod p (new_a.entry i j) (combination (new_t.entry i) new_rows.entry (length chosen_more) j)
-      trace_gives i j l b = elim (cases_eq i a.rows) [
-        | inl last ↦
-            let inside : j < a.cols = rw h.trace.cols b in
-            let c : ℕ = more.factor in
-            let x : ℕ = combination (λ k. get_or u k 0) old_rows.entry (length chosen) j in
-            let terms : SameMod p (combination (new_t.entry a.rows) old_rows.entry (length chosen) j) (combination (λ k.
-            c * get_or u k 0) old_rows.entry (length chosen) j) =
-            sum_same_mod p (λ k. new_t.entry a.rows k * old_rows.entry k j) (λ k. (c * get_or u k 0) * old_rows.entry k
-            j) (length chosen)
-            (λ k m. same_mul p (new_t.entry a.rows k) (c * get_or u k 0) (old_rows.entry k j) (old_rows.entry k j)
-            (ap (λ z. z % p) (last_factor k (rw (← height) m)) ∙ mod-mod (c * get_or u k 0) p) refl) in
-            let scaled : combination (λ k. c * get_or u k 0) old_rows.entry (length chosen) j ≡ c * x =
-            combination_scaled c (λ k. get_or u k 0) old_rows.entry (length chosen) j in
-            let own : SameMod p (new_t.entry a.rows a.rows * v j) (c * v j) = same_mul p (new_t.entry a.rows a.rows) c
-            (v j) (v j) (ap (λ z. z % p) own_factor ∙ mod-mod c p) refl in
-            let turned : c * (v j + x) ≡ c * x + c * v j = omega arith in
-            ap (λ k. new_a.entry k j % p) last
-            ∙ ap (λ z. z % p) (row_made j inside) ∙ mod-mod (c * get_or w j 0) p
-            ∙ same_mul p c c (get_or w j 0) (v j + x) refl (remainder_chosen (omega arith) j b)
-            ∙ ap (λ z. z % p) turned
-            ∙ sym (same_add p (combination (new_t.entry a.rows) old_rows.entry (length chosen) j) (c * x)
-            (new_t.entry a.rows a.rows * v j) (c * v j) (terms ∙ ap (λ z. z % p) scaled) own)
-            ∙ ap (λ z. z % p) (sym (combination_of (new_t.entry a.rows) j b))
-            ∙ ap (λ k. combination (new_t.entry k) new_rows.entry (length chosen_more) j % p) (sym last)
+    own_factor : new_t.entry a.rows a.rows ≡ more.factor % p
+    own_factor =
+        let one : more.factor * 1 ≡ more.factor = omega arith in
+        ap (λ k. new_t.entry k a.rows) (sym trace_height) ∙ more.trace_row.pushed a.rows (omega (arith, trace_width))
+        ∙ ap (λ z. (more.factor * z) % p) (cond-true {A = ℕ} (eqb a.rows t.rows) 1 (get_or u a.rows 0) (eq-eqb a.rows
+        t.rows (sym trace_height)))
+        ∙ ap (λ z. z % p) one
+
+    row_made : (j : ℕ) → j < a.cols → new_a.entry a.rows j ≡ (more.factor * get_or w j 0) % p
+    row_made j b = more.row.pushed j b
+
+    trace_gives : (i j : ℕ) → i < a.rows + 1 → j < old.cols →
+        SameMod p (new_a.entry i j) (combination (new_t.entry i) new_rows.entry (length chosen_more) j)
+    trace_gives i j l b = elim (cases_eq i a.rows) [
+      | inl last ↦
+          let inside : j < a.cols = rw h.trace.cols b in
+          let c : ℕ = more.factor in
+          let x : ℕ = combination (λ k. get_or u k 0) old_rows.entry (length chosen) j in
+          let terms : SameMod p (combination (new_t.entry a.rows) old_rows.entry (length chosen) j) (combination (λ k.
+          c * get_or u k 0) old_rows.entry (length chosen) j) =
+          sum_same_mod p (λ k. new_t.entry a.rows k * old_rows.entry k j) (λ k. (c * get_or u k 0) * old_rows.entry k
+          j) (length chosen)
+          (λ k m. same_mul p (new_t.entry a.rows k) (c * get_or u k 0) (old_rows.entry k j) (old_rows.entry k j)
+          (ap (λ z. z % p) (last_factor k (rw (← height) m)) ∙ mod-mod (c * get_or u k 0) p) refl) in
+          let scaled : combination (λ k. c * get_or u k 0) old_rows.entry (length chosen) j ≡ c * x =
+          combination_scaled c (λ k. get_or u k 0) old_rows.entry (length chosen) j in
+          let own : SameMod p (new_t.entry a.rows a.rows * v j) (c * v j) = same_mul p (new_t.entry a.rows a.rows) c
+          (v j) (v j) (ap (λ z. z % p) own_factor ∙ mod-mod c p) refl in
+          let turned : c * (v j + x) ≡ c * x + c * v j = omega arith in
+          ap (λ k. new_a.entry k j % p) last
+          ∙ ap (λ z. z % p) (row_made j inside) ∙ mod-mod (c * get_or w j 0) p
+          ∙ same_mul p c c (get_or w j 0) (v j + x) refl (remainder_chosen j b)
+          ∙ ap (λ z. z % p) turned
+          ∙ sym (same_add p (combination (new_t.entry a.rows) old_rows.entry (length chosen) j) (c * x)
+          (new_t.entry a.rows a.rows * v j) (c * v j) (terms ∙ ap (λ z. z % p) scaled) own)
+          ∙ ap (λ z. z % p) (sym (combination_of (new_t.entry a.rows) j b))
+          ∙ ap (λ k. combination (new_t.entry k) new_rows.entry (length chosen_more) j % p) (sym last)
+      | inr other ↦
+          let early : i < a.rows = omega arith in
+          let none : new_t.entry i a.rows ≡ 0 = trace_above i early in
+          let same : combination (new_t.entry i) old_rows.entry (length chosen) j ≡ combination (t.entry i)
+          old_rows.entry (length chosen) j =
+          sum_below_same (λ k. new_t.entry i k * old_rows.entry k j) (λ k. t.entry i k * old_rows.entry k j) (length
+          chosen)
+          (λ k m. ap (λ z. z * old_rows.entry k j) (trace_before i k early (rw (← height) m))) in
+          let whole : combination (new_t.entry i) old_rows.entry (length chosen) j + new_t.entry i a.rows * v j ≡
+          combination (t.entry i) old_rows.entry (length chosen) j =
+          ap₂ (λ x y. x + y * v j) same none ∙ omega arith in
+          ap (λ z. z % p) (more.row.others i j early (rw h.trace.cols b))
+          ∙ h.trace.gives i (rw height early) j b
+          ∙ ap (λ z. z % p) (sym (combination_of (new_t.entry i) j b ∙ whole))
+    ]
+
+    -- what a row of the trace says of numbers
+    trace_says : (y : ℕ → ℕ) (i : ℕ) → image new_t y i ≡
+        sum_below (λ k. y k * new_t.entry i k) a.rows + y a.rows * new_t.entry i a.rows
+    trace_says y i =
+        ap (λ n. sum_below (λ k. y k * new_t.entry i k) n) new_width
+        ∙ sum_below_more (λ k. y k * new_t.entry i k) a.rows
+
+    trace_faithful : (y : ℕ → ℕ) → IsInKernel p new_t y →
+        (k : ℕ) → k < a.rows + 1 → SameMod p (y k) 0
+    trace_faithful y kernel k l =
+        let c : ℕ = more.factor in
+        let old_kernel : IsInKernel p t y = λ i m.
+        let early : i < a.rows = rw (← trace_height) m in
+        let none : new_t.entry i a.rows ≡ 0 = trace_above i early in
+        let same : sum_below (λ k. y k * new_t.entry i k) a.rows ≡ sum_below (λ k. y k * t.entry i k) a.rows =
+        sum_below_same (λ k. y k * new_t.entry i k) (λ k. y k * t.entry i k) a.rows (λ k b. ap (λ z. y k * z)
+        (trace_before i k early b)) in
+        let whole : sum_below (λ k. y k * new_t.entry i k) a.rows + y a.rows * new_t.entry i a.rows ≡ sum_below (λ k.
+        y k * t.entry i k) a.rows = ap₂ (λ x z. x + y a.rows * z) same none ∙ omega arith in
+        ap (λ n. sum_below (λ k. y k * t.entry i k) n % p) trace_width
+        ∙ ap (λ z. z % p) (sym (trace_says y i ∙ whole))
+        ∙ kernel i (omega (arith, more.trace_row.rows, trace_height, early)) in
+        let before : (k : ℕ) → k < a.rows → SameMod p (y k) 0 =
+        λ k m. h.trace.faithful y old_kernel k (rw height m) in
+        elim (cases_eq k a.rows) [
+          | inl last ↦
+              let zeros : SameMod p (sum_below (λ k. y k * new_t.entry a.rows k) a.rows) 0 =
+              sum_zero_mod p (λ k. y k * new_t.entry a.rows k) a.rows (λ k b. zero_mul p (y k) (new_t.entry a.rows k)
+              (before k b)) in
+              let said : SameMod p (0 + y a.rows * new_t.entry a.rows a.rows) 0 =
+              sym (same_add p (sum_below (λ k. y k * new_t.entry a.rows k) a.rows) 0 (y a.rows * new_t.entry a.rows
+              a.rows) (y a.rows * new_t.entry a.rows a.rows) zeros refl)
+              ∙ ap (λ z. z % p) (sym (trace_says y a.rows))
+              ∙ kernel a.rows (omega (arith, more.trace_row.rows, trace_height)) in
+              let none : 0 + y a.rows * new_t.entry a.rows a.rows ≡ y a.rows * new_t.entry a.rows a.rows =
+              omega arith in
+              let multiple : SameMod p (y a.rows * c) 0 =
+              same_mul p (y a.rows) (y a.rows) c (new_t.entry a.rows a.rows) refl
+              (sym (ap (λ z. z % p) own_factor ∙ mod-mod c p))
+              ∙ ap (λ z. z % p) (sym none) ∙ said in
+              let turned : y a.rows * 1 ≡ y a.rows = omega arith in
+              let again : y a.rows * (get_or w q 0 * c) ≡ get_or w q 0 * (y a.rows * c) = omega arith in
+              ap (λ k. y k % p) last ∙ ap (λ z. z % p) (sym turned)
+              ∙ same_mul p (y a.rows) (y a.rows) 1 (get_or w q 0 * c) refl (sym more.inverse)
+              ∙ ap (λ z. z % p) again ∙ mul_zero p (get_or w q 0) (y a.rows * c) multiple
+          | inr other ↦ before k (omega arith)
+        ]
+
+    leads_more : HasLeading new_a places
+    leads_more = record {
+      one_for_each = place_count ∙ sym more.row.rows;
+      below = λ k l. elim (cases_eq k a.rows) [
+        | inl last ↦ rw (ap (λ i. get_or places i 0) last ∙ place_last, more.row.cols) (rw (← wide) first.within)
         | inr other ↦
-            let early : i < a.rows = omega arith in
-            let none : new_t.entry i a.rows ≡ 0 = trace_before i a.rows early (omega (arith, few, h.width))
-            ∙ h.zero_after i a.rows (rw height early) (omega (arith, height)) (omega (arith, few, h.width)) in
-            let same : combination (new_t.entry i) old_rows.entry (length chosen) j ≡ combination (t.entry i)
-            old_rows.entry (length chosen) j =
-            sum_below_same (λ k. new_t.entry i k * old_rows.entry k j) (λ k. t.entry i k * old_rows.entry k j) (length
-            chosen)
-            (λ k m. ap (λ z. z * old_rows.entry k j) (trace_before i k early (narrow k (rw (← height) m)))) in
-            let whole : combination (new_t.entry i) old_rows.entry (length chosen) j + new_t.entry i a.rows * v j ≡
-            combination (t.entry i) old_rows.entry (length chosen) j =
-            ap₂ (λ x y. x + y * v j) same none ∙ omega arith in
-            ap (λ z. z % p) (more.row.others i j early (rw h.trace.cols b))
-            ∙ h.trace.gives i (rw height early) j b
-            ∙ ap (λ z. z % p) (sym (combination_of (new_t.entry i) j b ∙ whole))
-      ]
+            let early : k < a.rows = omega (arith, place_count) in
+            rw (place_before k early, more.row.cols) (h.leading.below k (rw h.leading.one_for_each early))
+      ];
+      one = λ k l. elim (cases_eq k a.rows) [
+        | inl last ↦
+            let turned : more.factor * get_or w q 0 ≡ get_or w q 0 * more.factor = omega arith in
+            ap₂ new_a.entry last (ap (λ i. get_or places i 0) last ∙ place_last)
+            ∙ row_made q (rw (← wide) first.within) ∙ ap (λ z. z % p) turned ∙ more.inverse ∙ mod-eq_of_lt two
+        | inr other ↦
+            let early : k < a.rows = omega (arith, place_count) in
+            let inside : k < length ps = rw h.leading.one_for_each early in
+            ap (new_a.entry k) (place_before k early) ∙ more.row.others k (get_or ps k 0) early (h.leading.below k
+            inside) ∙ h.leading.one k inside
+      ];
+      zero_before = λ k j l b. elim (cases_eq k a.rows) [
+        | inl last ↦
+            let before : j < q = subst (λ z. j < z) (ap (λ i. get_or places i 0) last ∙ place_last) b in
+            let within : q < a.cols = rw (← wide) first.within in
+            row_zero k j last (omega arith) (first.zero_before j before)
+        | inr other ↦
+            let early : k < a.rows = omega (arith, place_count) in
+            let inside : k < length ps = rw h.leading.one_for_each early in
+            let before : j < get_or ps k 0 = subst (λ z. j < z) (place_before k early) b in
+            let below : get_or ps k 0 < a.cols = h.leading.below k inside in
+            more.row.others k j early (omega arith) ∙ h.leading.zero_before k j inside before
+      ];
+      zero_earlier = λ k l m b. elim (cases_eq k a.rows) [
+        | inl last ↦
+            let early : l < a.rows = omega arith in
+            let inside : l < length ps = rw h.leading.one_for_each early in
+            ap (new_a.entry k) (place_before l early)
+            ∙ row_zero k (get_or ps l 0) last (h.leading.below l inside) (left.zero l inside)
+        | inr other ↦
+            let early : k < a.rows = omega (arith, place_count) in
+            let inside : k < length ps = rw h.leading.one_for_each early in
+            let here : l < length ps = omega arith in
+            ap (new_a.entry k) (place_before l (omega arith))
+            ∙ more.row.others k (get_or ps l 0) early (h.leading.below l here) ∙ h.leading.zero_earlier k l inside b
+      ];
+    }
+      where
+        row_zero : (k j : ℕ) → k ≡ a.rows → j < a.cols → get_or w j 0 ≡ 0 → new_a.entry k j ≡ 0
+        row_zero k j last inside none =
+            let whole : more.factor * get_or w j 0 ≡ 0 = ap (λ z. more.factor * z) none ∙ omega arith in
+            ap (λ i. new_a.entry i j) last ∙ row_made j inside ∙ ap (λ z. z % p) whole ∙ zero-mod p
 
-      -- what a row of the trace says of numbers
-      trace_says : (y : ℕ → ℕ) (i : ℕ) → image (narrowed (length chosen_more) new_t) y i ≡
-          sum_below (λ k. y k * new_t.entry i k) a.rows + y a.rows * new_t.entry i a.rows
-      trace_says y i =
-          ap (λ n. sum_below (λ k. y k * new_t.entry i k) n) chosen_count
-          ∙ sum_below_more (λ k. y k * new_t.entry i k) a.rows
+    -- the row that came is what is left of it, and what was taken
+    row_written : (j : ℕ) → j < a.cols → SameMod p (v j) (combination (extended minus a.rows (get_or w q 0))
+        new_a.entry new_a.rows j)
+    row_written j b =
+        let c : ℕ = more.factor in
+        let x : ℕ = get_or w q 0 in
+        let again : x * (c * get_or w j 0) ≡ (x * c) * get_or w j 0 = omega arith in
+        let one : 1 * get_or w j 0 ≡ get_or w j 0 = omega arith in
+        let back : SameMod p (x * new_a.entry a.rows j) (get_or w j 0) =
+        same_mul p x x (new_a.entry a.rows j) (c * get_or w j 0) refl (ap (λ z. z % p) (row_made j b) ∙ mod-mod (c *
+        get_or w j 0) p)
+        ∙ ap (λ z. z % p) again
+        ∙ same_mul p (x * c) 1 (get_or w j 0) (get_or w j 0) more.inverse refl ∙ ap (λ z. z % p) one in
+        let taken : combination minus new_a.entry a.rows j ≡ combination minus a.entry a.rows j =
+        sum_below_same (λ k. minus k * new_a.entry k j) (λ k. minus k * a.entry k j) a.rows (λ k l. ap (λ z. minus k *
+        z) (more.row.others k j l b)) in
+        let turned : get_or w j 0 + combination minus a.entry a.rows j ≡ combination minus a.entry a.rows j + get_or w
+        j 0 = omega arith in
+        remainder_sum j b ∙ ap (λ z. z % p) turned
+        ∙ sym (same_add p (combination minus new_a.entry a.rows j) (combination minus a.entry a.rows j) (x *
+        new_a.entry a.rows j) (get_or w j 0) (ap (λ z. z % p) taken) back)
+        ∙ ap (λ z. z % p) (sym (ap (λ n. combination (extended minus a.rows x) new_a.entry n j) more.row.rows
+        ∙ combination_more minus a.rows x new_a.entry j))
 
-      trace_faithful : (y : ℕ → ℕ) → IsInKernel p (narrowed (length chosen_more) new_t) y →
-          (k : ℕ) → k < a.rows + 1 → SameMod p (y k) 0
-      trace_faithful y kernel k l =
-          let c : ℕ = more.factor in
-          let old_kernel : IsInKernel p (narrowed (length chosen) t) y = λ i m.
-          let early : i < a.rows = rw (← trace_height) m in
-          let none : new_t.entry i a.rows ≡ 0 = trace_before i a.rows early (omega (arith, few, h.width))
-          ∙ h.zero_after i a.rows (rw height early) (omega (arith, height)) (omega (arith, few, h.width)) in
-          let same : sum_below (λ k. y k * new_t.entry i k) a.rows ≡ sum_below (λ k. y k * t.entry i k) a.rows =
-          sum_below_same (λ k. y k * new_t.entry i k) (λ k. y k * t.entry i k) a.rows (λ k b. ap (λ z. y k * z)
-          (trace_before i k early (narrow k b))) in
-          let whole : sum_below (λ k. y k * new_t.entry i k) a.rows + y a.rows * new_t.entry i a.rows ≡ sum_below (λ k.
-          y k * t.entry i k) a.rows = ap₂ (λ x z. x + y a.rows * z) same none ∙ omega arith in
-          ap (λ n. sum_below (λ k. y k * t.entry i k) n % p) height
-          ∙ ap (λ z. z % p) (sym (trace_says y i ∙ whole))
-          ∙ kernel i (omega (arith, more.trace_row.rows, trace_height, early)) in
-          let before : (k : ℕ) → k < a.rows → SameMod p (y k) 0 =
-          λ k m. h.trace.faithful y old_kernel k (rw height m) in
-          elim (cases_eq k a.rows) [
-            | inl last ↦
-                let zeros : SameMod p (sum_below (λ k. y k * new_t.entry a.rows k) a.rows) 0 =
-                sum_zero_mod p (λ k. y k * new_t.entry a.rows k) a.rows (λ k b. zero_mul p (y k) (new_t.entry a.rows k)
-                (before k b)) in
-                let said : SameMod p (0 + y a.rows * new_t.entry a.rows a.rows) 0 =
-                sym (same_add p (sum_below (λ k. y k * new_t.entry a.rows k) a.rows) 0 (y a.rows * new_t.entry a.rows
-                a.rows) (y a.rows * new_t.entry a.rows a.rows) zeros refl)
-                ∙ ap (λ z. z % p) (sym (trace_says y a.rows))
-                ∙ kernel a.rows (omega (arith, more.trace_row.rows, trace_height)) in
-                let none : 0 + y a.rows * new_t.entry a.rows a.rows ≡ y a.rows * new_t.entry a.rows a.rows =
-                omega arith in
-                let multiple : SameMod p (y a.rows * c) 0 =
-                same_mul p (y a.rows) (y a.rows) c (new_t.entry a.rows a.rows) refl
-                (sym (ap (λ z. z % p) own_factor ∙ mod-mod c p))
-                ∙ ap (λ z. z % p) (sym none) ∙ said in
-                let turned : y a.rows * 1 ≡ y a.rows = omega arith in
-                let again : y a.rows * (get_or w q 0 * c) ≡ get_or w q 0 * (y a.rows * c) = omega arith in
-                ap (λ k. y k % p) last ∙ ap (λ z. z % p) (sym turned)
-                ∙ same_mul p (y a.rows) (y a.rows) 1 (get_or w q 0 * c) refl (sym more.inverse)
-                ∙ ap (λ z. z % p) again ∙ mul_zero p (get_or w q 0) (y a.rows * c) multiple
-            | inr other ↦ before k (omega arith)
-          ]
-
-      leads_more : HasLeading new_a places
-      leads_more = record {
-        one_for_each = place_count ∙ sym more.row.rows;
-        below = λ k l. elim (cases_eq k a.rows) [
-          | inl last ↦ rw (ap (λ i. get_or places i 0) last ∙ place_last, more.row.cols) (rw (← wide) first.within)
-          | inr other ↦
-              let early : k < a.rows = omega (arith, place_count) in
-              rw (place_before k early, more.row.cols) (h.leading.below k (rw h.leading.one_for_each early))
-        ];
-        one = λ k l. elim (cases_eq k a.rows) [
+    -- the row is chosen
+    pub grown_more : IsGrown p new new_a new_t places chosen_more (count + 1)
+    grown_more = record {
+      as_many = new_count;
+      choice = record {
+        rise = λ k l. elim (cases_eq (k + 1) (length chosen)) [
           | inl last ↦
-              let turned : more.factor * get_or w q 0 ≡ get_or w q 0 * more.factor = omega arith in
-              ap₂ new_a.entry last (ap (λ i. get_or places i 0) last ∙ place_last)
-              ∙ row_made q (rw (← wide) first.within) ∙ ap (λ z. z % p) turned ∙ more.inverse ∙ mod-eq_of_lt two
+              let early : k < length chosen = omega arith in
+              let below : get_or chosen k 0 < old.rows = h.choice.below k 0 early in
+              rw (get_or_append_left chosen (count ∷ []) 0 k early, get_or_push chosen count 0 (k + 1) (sym last))
+              (omega (arith, h.as_many))
           | inr other ↦
-              let early : k < a.rows = omega (arith, place_count) in
-              let inside : k < length ps = rw h.leading.one_for_each early in
-              ap (new_a.entry k) (place_before k early) ∙ more.row.others k (get_or ps k 0) early (h.leading.below k
-              inside) ∙ h.leading.one k inside
+              let early : k + 1 < length chosen = omega (arith, chosen_count, height) in
+              rw (
+                get_or_append_left chosen (count ∷ []) 0 k (omega arith),
+                get_or_append_left chosen (count ∷ []) 0
+                    (k + 1) early,
+              ) (h.choice.rise k early)
         ];
-        zero_before = λ k j l b. elim (cases_eq k a.rows) [
-          | inl last ↦
-              let before : j < q = subst (λ z. j < z) (ap (λ i. get_or places i 0) last ∙ place_last) b in
-              let within : q < a.cols = rw (← wide) first.within in
-              row_zero k j last (omega arith) (first.zero_before j before)
-          | inr other ↦
-              let early : k < a.rows = omega (arith, place_count) in
-              let inside : k < length ps = rw h.leading.one_for_each early in
-              let before : j < get_or ps k 0 = subst (λ z. j < z) (place_before k early) b in
-              let below : get_or ps k 0 < a.cols = h.leading.below k inside in
-              more.row.others k j early (omega arith) ∙ h.leading.zero_before k j inside before
-        ];
-        zero_earlier = λ k l m b. elim (cases_eq k a.rows) [
-          | inl last ↦
-              let early : l < a.rows = omega arith in
-              let inside : l < length ps = rw h.leading.one_for_each early in
-              ap (new_a.entry k) (place_before l early)
-              ∙ row_zero k (get_or ps l 0) last (h.leading.below l inside) (left.zero l inside)
-          | inr other ↦
-              let early : k < a.rows = omega (arith, place_count) in
-              let inside : k < length ps = rw h.leading.one_for_each early in
-              let here : l < length ps = omega arith in
-              ap (new_a.entry k) (place_before l (omega arith))
-              ∙ more.row.others k (get_or ps l 0) early (h.leading.below l here) ∙ h.leading.zero_earlier k l inside b
-        ];
-      }
-        where
-          row_zero : (k j : ℕ) → k ≡ a.rows → j < a.cols → get_or w j 0 ≡ 0 → new_a.entry k j ≡ 0
-          row_zero k j last inside none =
-              let whole : more.factor * get_or w j 0 ≡ 0 = ap (λ z. more.factor * z) none ∙ omega arith in
-              ap (λ i. new_a.entry i j) last ∙ row_made j inside ∙ ap (λ z. z % p) whole ∙ zero-mod p
-
-      -- past the chosen rows the new row of the trace is 0 too
-      zero_after_more : (l : ℕ) → a.rows < l → l < t.cols → new_t.entry a.rows l ≡ 0
-      zero_after_more l late b =
-          let said : SameMod p (get_or u l 0) 0 = left.factors_left l b
-          ∙ sum_zero_mod p (λ k. left.factors k * t.entry k l) (length ps)
-          (λ k m. mul_zero p (left.factors k) (t.entry k l) (ap (λ z. z % p) (h.zero_after k l (rw height (rw (←
-          h.leading.one_for_each) m)) (omega (arith, height)) b))) in
-          ap (λ k. new_t.entry k l) (sym trace_height) ∙ more.trace_row.pushed l b
-          ∙ ap (λ z. (more.factor * z) % p) (cond-false {A = ℕ} (eqb l a.rows) 1 (get_or u l 0) (ne_eqb l a.rows (λ e.
-          absurd (omega arith))))
-          ∙ mul_zero p more.factor (get_or u l 0) said ∙ zero-mod p
-
-      -- the row that came is what is left of it, and what was taken
-      row_written : (j : ℕ) → j < a.cols → SameMod p (v j) (combination (extended minus a.rows (get_or w q 0))
-          new_a.entry new_a.rows j)
-      row_written j b =
-          let c : ℕ = more.factor in
-          let x : ℕ = get_or w q 0 in
-          let again : x * (c * get_or w j 0) ≡ (x * c) * get_or w j 0 = omega arith in
-          let one : 1 * get_or w j 0 ≡ get_or w j 0 = omega arith in
-          let back : SameMod p (x * new_a.entry a.rows j) (get_or w j 0) =
-          same_mul p x x (new_a.entry a.rows j) (c * get_or w j 0) refl (ap (λ z. z % p) (row_made j b) ∙ mod-mod (c *
-          get_or w j 0) p)
-          ∙ ap (λ z. z % p) again
-          ∙ same_mul p (x * c) 1 (get_or w j 0) (get_or w j 0) more.inverse refl ∙ ap (λ z. z % p) one in
-          let taken : combination minus new_a.entry a.rows j ≡ combination minus a.entry a.rows j =
-          sum_below_same (λ k. minus k * new_a.entry k j) (λ k. minus k * a.entry k j) a.rows (λ k l. ap (λ z. minus k *
-          z) (more.row.others k j l b)) in
-          let turned : get_or w j 0 + combination minus a.entry a.rows j ≡ combination minus a.entry a.rows j + get_or w
-          j 0 = omega arith in
-          remainder_sum j b ∙ ap (λ z. z % p) turned
-          ∙ sym (same_add p (combination minus new_a.entry a.rows j) (combination minus a.entry a.rows j) (x *
-          new_a.entry a.rows j) (get_or w j 0) (ap (λ z. z % p) taken) back)
-          ∙ ap (λ z. z % p) (sym (ap (λ n. combination (extended minus a.rows x) new_a.entry n j) more.row.rows
-          ∙ combination_more minus a.rows x new_a.entry j))
-
-      -- the row is chosen
-      pub grown_more : IsGrown p new new_a new_t places chosen_more (count + 1)
-      grown_more = record {
-        as_many = new_count;
-        choice = record {
-          rise = λ k l. elim (cases_eq (k + 1) (length chosen)) [
-            | inl last ↦
-                let early : k < length chosen = omega arith in
-                let below : get_or chosen k 0 < old.rows = h.choice.below k 0 early in
-                rw (get_or_append_left chosen (count ∷ []) 0 k early, get_or_push chosen count 0 (k + 1) (sym last))
-                (omega (arith, h.as_many))
-            | inr other ↦
-                let early : k + 1 < length chosen = omega (arith, chosen_count, height) in
-                rw (
-                  get_or_append_left chosen (count ∷ []) 0 k (omega arith),
-                  get_or_append_left chosen (count ∷ []) 0
-                      (k + 1) early,
-                ) (h.choice.rise k early)
-          ];
-          below = All-push (λ i. i < new.rows) chosen count (λ k d l. let below = h.choice.below k d l in omega (
-            arith,
-            pushed.rows,
-          )) (omega (arith, pushed.rows, h.as_many));
-        };
-        leading = leads_more;
-        trace = record {
-          rows = more.row.rows ∙ sym chosen_count;
-          cols = more.row.cols ∙ h.trace.cols ∙ sym pushed.cols;
-          trace_rows = more.trace_row.rows ∙ ap (λ n. n + 1) trace_height ∙ sym chosen_count;
-          trace_cols = refl;
-          gives = λ i l j b. trace_gives i j (rw (← chosen_count) l) (rw (← pushed.cols) b);
-          faithful = λ y kernel k l. trace_faithful y kernel k (rw (← chosen_count) l);
-        };
-        width = more.trace_row.cols ∙ h.width ∙ sym more.row.cols;
-        zero_after = λ k l m late b.
-            let inside : l < t.cols = rw (← more.trace_row.cols) b in
-            elim (cases_eq k a.rows) [
-              | inl last ↦ ap (λ i. new_t.entry i l) last ∙ zero_after_more l (omega (arith, chosen_count)) inside
-              | inr other ↦
-                  let early : k < a.rows = omega (arith, chosen_count) in
-                  trace_before k l early inside
-                  ∙ h.zero_after k l (rw height early) (omega (arith, chosen_count, height)) inside
-            ];
-        numbers = more.numbers;
-        trace_numbers = more.trace_numbers;
-        written = λ i l. elim (cases_eq i old.rows) [
-          | inl last ↦ record {
-            factors = extended minus a.rows (get_or w q 0);
-            sums = λ j b.
-                let inside : j < a.cols = rw (← more.row.cols) b in
-                ap (λ k. new.entry k j % p) last ∙ ap (λ z. z % p) (pushed.pushed j (old_column j inside))
-                ∙ row_written j inside;
-          }
-          | inr other ↦ combination_kept more.row (old_written i (omega (arith, pushed.rows)))
-        ];
-      }
+        below = All-push (λ i. i < new.rows) chosen count (λ k d l. let below = h.choice.below k d l in omega (
+          arith,
+          pushed.rows,
+        )) (omega (arith, pushed.rows, h.as_many));
+      };
+      leading = leads_more;
+      trace = record {
+        rows = more.row.rows ∙ sym chosen_count;
+        cols = more.row.cols ∙ h.trace.cols ∙ sym pushed.cols;
+        trace_rows = more.trace_row.rows ∙ ap (λ n. n + 1) trace_height ∙ sym chosen_count;
+        trace_cols = new_width ∙ sym chosen_count;
+        gives = λ i l j b. trace_gives i j (rw (← chosen_count) l) (rw (← pushed.cols) b);
+        faithful = λ y kernel k l. trace_faithful y kernel k (rw (← chosen_count) l);
+      };
+      numbers = more.numbers;
+      trace_numbers = more.trace_numbers;
+      written = λ i l. elim (cases_eq i old.rows) [
+        | inl last ↦ record {
+          factors = extended minus a.rows (get_or w q 0);
+          sums = λ j b.
+              let inside : j < a.cols = rw (← more.row.cols) b in
+              ap (λ k. new.entry k j % p) last ∙ ap (λ z. z % p) (pushed.pushed j (old_column j inside))
+              ∙ row_written j inside;
+        }
+        | inr other ↦ combination_kept more.row (old_written i (omega (arith, pushed.rows)))
+      ];
+    }
 
 -- rows with a row more
 abbrev pub pushed_rows : Matrix → (ℕ → ℕ) → Matrix
@@ -511,9 +491,8 @@ pushed_made a v = record {
 
 -- the basis of no rows
 pub grown_none : {p count : ℕ} {old a t : Matrix} → old.rows ≡ 0 → count ≡ 0 → a.rows ≡ 0 → t.rows ≡ 0 →
-    a.cols ≡ old.cols
-    → t.cols ≡ old.cols → IsGrown p old a t [] [] count
-grown_none {p} {count} {old} {a} {t} none first rows trace_rows cols trace_cols = record {
+    t.cols ≡ 0 → a.cols ≡ old.cols → IsGrown p old a t [] [] count
+grown_none {p} {count} {old} {a} {t} none first rows trace_rows trace_cols cols = record {
   as_many = none ∙ sym first;
   choice = record { rise = λ k l. absurd (omega arith); below = λ k d l. absurd (omega arith) };
   leading = record {
@@ -527,12 +506,10 @@ grown_none {p} {count} {old} {a} {t} none first rows trace_rows cols trace_cols 
     rows = rows;
     cols = cols;
     trace_rows = trace_rows;
-    trace_cols = refl;
+    trace_cols = trace_cols;
     gives = λ i l j b. absurd (omega arith);
     faithful = λ y kernel k l. absurd (omega arith);
   };
-  width = trace_cols ∙ sym cols;
-  zero_after = λ k l m late b. absurd (omega arith);
   numbers = λ i j l b. absurd (omega (arith, rows));
   trace_numbers = λ i j l b. absurd (omega (arith, trace_rows));
   written = λ i l. absurd (omega (arith, none));

@@ -1,18 +1,15 @@
 -- A basis grows by a row: what is left of the row once it is reduced, and the two ways on.
-use Rattle.std.proofs.Common.{◌≡◌, ◌≢◌, ℕ, suc, ◌+◌, ◌*◌, ◌%◌, ◌<◌, ◌≤◌, List, [], ◌∷◌, ◌++◌, length, get_or, inl, inr, refl, sym, ap, ap₂, ◌∙◌, subst, cond, eqb, eq-eqb, eqb-true, ne_eqb, true, true≢false, set, length-set, get_or-set_same, get_or-set_other, arith}
-use Rattle.std.specs.List.{list_any}
+use Rattle.std.proofs.Common.{◌≡◌, ℕ, ◌+◌, ◌*◌, ◌%◌, ◌<◌, ◌≤◌, List, length, get_or, inl, inr, refl, sym, ap, ap₂, ◌∙◌, cond, eqb, eq-eqb, ne_eqb, set, length-set, get_or-set_same, get_or-set_other, arith}
 use Rattle.std.proofs.Math.Nat.{zero-mod, mod-mod, mod-lt}
-use Rattle.std.proofs.lemmas.Bool.{cases_eq, cond-true, cond-false, or_cases}
-use Rattle.std.proofs.lemmas.Bool.Decides.{Decides-eqb}
-use Rattle.std.proofs.lemmas.List.{get_or_default, get_or_push, get_or_append_left, length-append}
-use Rattle.std.proofs.lemmas.Map.Made.{IsDistinct-from_AllPairs}
-use Rattle.std.proofs.lemmas.Map.Steps.{length-le_from_distinct_below}
+use Rattle.std.proofs.lemmas.Bool.{cases_eq, cond-true, cond-false}
 use Rattle.bmp_math.specs.Congruences.{SameMod}
 use Rattle.bmp_math.specs.Matrices.{Matrix, NumbersBelow, combination}
 use Rattle.bmp_math.proofs.CongruenceLemmas.{same_add}
 use Rattle.bmp_math.proofs.SumLemmas.{sum_below_more, sum_below_same, sum_below-zero}
+use Rattle.bmp_field.specs.Runs.{AreBelow}
 use Rattle.bmp_linear.specs.RowChanges.{IsRowPushed, IsRowAddedTo, HoldsNumbers}
 use Rattle.bmp_elim.specs.GrowingBases.{HasLeading, IsRemainder, IsMultiplied, IsPivotPushed}
+use Rattle.bmp_elim.specs.Triangles.{IsCornered}
 
 -- the factors below n, and one more
 abbrev pub extended : (ℕ → ℕ) → ℕ → ℕ → ℕ → ℕ
@@ -98,75 +95,18 @@ module _ {p n : ℕ} {a t : Matrix} {ps : List ℕ} {v : ℕ → ℕ} {w u : Lis
 
 -- nothing was taken yet
 pub remainder_start : {p : ℕ} {a t : Matrix} {ps w u : List ℕ} → HoldsNumbers p a.cols w → 0 < p →
-    ((j : ℕ) → j < length u → get_or u j 0 ≡ 0) → length u ≡ t.cols → IsRemainder p 0 a t ps (λ j. get_or w j 0) w u
+    ((j : ℕ) → j < length u → get_or u j 0 ≡ 0) → t.cols ≤ length u → IsRemainder p 0 a t ps (λ j. get_or w j 0) w u
 remainder_start {p} {a} {t} {ps} {w} {u} holds positive zeros room = record {
   factors = λ k. 0;
   left = λ j l.
       let none : combination (λ k. 0) a.entry 0 j ≡ 0 = sum_below-zero (λ i. 0 * a.entry i j) in
       let whole : get_or w j 0 ≡ get_or w j 0 + combination (λ k. 0) a.entry 0 j = omega (arith, none) in
       ap (λ z. z % p) whole;
-  factors_left = λ j l. ap (λ z. z % p) (zeros j (rw room l) ∙ sym (sum_below-zero (λ i. 0 * t.entry i j)));
+  factors_left = λ j l. ap (λ z. z % p) (zeros j (omega (arith, room)) ∙ sym (sum_below-zero (λ i. 0 * t.entry i j)));
   zero = λ k l. absurd (omega arith);
   below = holds.below;
-  trace_below = λ j l. rw (zeros j (rw room l)) positive;
+  trace_below = λ j l. rw (zeros j (omega (arith, room))) positive;
 }
-
--- a place where a list says that a number is
-any_place : (q : ℕ) (ps : List ℕ) → list_any (eqb q) ps ≡ true → (k : ℕ) × (k < length ps) × (get_or ps k 0 ≡ q)
-any_place q [] h = absurd (true≢false (sym h))
-any_place q (x ∷ xs) h =
-    elim (or_cases (eqb q x) (list_any (eqb q) xs) h) [
-      | inl here ↦ (0, omega arith, sym (eqb-true q x here))
-      | inr later ↦ let k = any_place q xs later in (suc k.0, omega arith, k.2)
-    ]
-
--- places that differ are no more than there are
-places_few : (ps : List ℕ) (n : ℕ) → ((i j : ℕ) → i < j → j < length ps → get_or ps i 0 ≢ get_or ps j 0) →
-    ((k : ℕ) → k < length ps → get_or ps k 0 < n) → length ps ≤ n
-places_few ps n apart below =
-    length-le_from_distinct_below ps n
-    (IsDistinct-from_AllPairs Decides-eqb ps
-    (λ i j d l m same. apart i j l m
-    (sym (get_or_default ps i d 0 (omega arith)) ∙ same ∙ get_or_default ps j d 0 m)))
-    (λ q there. let k = any_place q ps there in subst (λ x. x < n) k.2 (below k.0 k.1))
-
--- so there are no more leading rows than columns
-pub leading_narrow : {a : Matrix} {ps : List ℕ} → HasLeading a ps → a.rows ≤ a.cols
-leading_narrow {a} {ps} leading =
-    let few : length ps ≤ a.cols = places_few ps a.cols
-    (λ i j l m same.
-    let wrong : 1 ≡ 0 = sym (leading.one j m) ∙ ap (a.entry j) (sym same) ∙ leading.zero_earlier j i m l in
-    absurd (omega (arith, wrong)))
-    leading.below in
-    omega (arith, leading.one_for_each)
-
--- where a remainder isn't 0 there are fewer reduced rows than columns
-pub leading_few : {a : Matrix} {ps : List ℕ} (w : List ℕ) (q : ℕ) → HasLeading a ps →
-    ((k : ℕ) → k < length ps → get_or w (get_or ps k 0) 0 ≡ 0) → q < a.cols → get_or w q 0 ≢ 0 → a.rows < a.cols
-leading_few {a} {ps} w q leading zeros within other =
-    let count : length (ps ++ q ∷ []) ≡ length ps + 1 = simp length-append refl in
-    let last : get_or (ps ++ q ∷ []) (length ps) 0 ≡ q = get_or_push ps q 0 (length ps) refl in
-    let before : (k : ℕ) → k < length ps → get_or (ps ++ q ∷ []) k 0 ≡ get_or ps k 0 =
-    λ k l. get_or_append_left ps (q ∷ []) 0 k l in
-    let few : length (ps ++ q ∷ []) ≤ a.cols = places_few (ps ++ q ∷ []) a.cols
-    (λ i j l m same. elim (cases_eq j (length ps)) [
-      | inl ends ↦
-          let here : i < length ps = omega arith in
-          other (ap (λ z. get_or w z 0) (sym (sym (before i here) ∙ same ∙ ap (λ z. get_or (ps ++ q ∷ []) z 0) ends
-          ∙ last)) ∙ zeros i here)
-      | inr early ↦
-          let inside : j < length ps = omega arith in
-          let here : i < length ps = omega arith in
-          let both : get_or ps i 0 ≡ get_or ps j 0 = sym (before i here) ∙ same ∙ before j inside in
-          let wrong : 1 ≡ 0 = sym (leading.one j inside) ∙ ap (a.entry j) (sym both)
-          ∙ leading.zero_earlier j i inside l in
-          absurd (omega (arith, wrong))
-    ])
-    (λ k l. elim (cases_eq k (length ps)) [
-      | inl ends ↦ rw (ap (λ z. get_or (ps ++ q ∷ []) z 0) ends ∙ last) within
-      | inr early ↦ let inside : k < length ps = omega arith in rw (before k inside) (leading.below k inside)
-    ]) in
-    omega (arith, count, leading.one_for_each)
 
 -- what was pushed, said by the numbers before they were multiplied
 pushed_as : {a b : Matrix} {x y : ℕ → ℕ} → IsRowPushed a b x → ((j : ℕ) → j < a.cols → x j ≡ y j) → IsRowPushed a b y
@@ -177,17 +117,30 @@ pushed_as h same = record {
   others = h.others;
 }
 
+cornered_as : {t b : Matrix} {x y : ℕ → ℕ} → IsCornered t b x → ((j : ℕ) → j ≤ t.cols → x j ≡ y j) → IsCornered t b y
+cornered_as h same = record {
+  rows = h.rows;
+  cols = h.cols;
+  pushed = λ j l. h.pushed j l ∙ same j l;
+  others = h.others;
+  zero_above = h.zero_above;
+}
+
+pub multiplied_below : {p c : ℕ} {old new : List ℕ} → 0 < p → IsMultiplied p c old new → AreBelow p new
+multiplied_below {p} {c} {old} {new} positive h = λ j l.
+    rw (h.multiplied j (rw (← h.length_is) l)) (mod-lt (c * get_or old j 0) positive)
+
 -- a remainder and its factors, multiplied and pushed
 pub record ArePushed (p j c r : ℕ) (w u made_w made_u : List ℕ) (a t new_a new_t : Matrix) : Type 0 where
-  pub height : r ≡ a.rows
-  pub room : r < length u
+  pub height : r ≡ t.rows
+  pub square : t.cols ≡ t.rows
   pub width : length w ≡ a.cols
-  pub trace_width : length u ≡ t.cols
+  pub trace_width : length u ≡ t.cols + 1
   pub inverse : SameMod p (get_or w j 0 * c) 1
   pub multiplied : IsMultiplied p c w made_w
   pub trace_multiplied : IsMultiplied p c (set u r 1) made_u
   pub row : IsRowPushed a new_a (λ i. get_or made_w i 0)
-  pub trace_row : IsRowPushed t new_t (λ i. get_or made_u i 0)
+  pub trace_row : IsCornered t new_t (λ i. get_or made_u i 0)
   pub numbers : NumbersBelow p new_a
   pub trace_numbers : NumbersBelow p new_t
 
@@ -197,15 +150,16 @@ pivot_pushed {p} {j} {c} {r} {w} {u} {made_w} {made_u} {a} {t} h = record {
   factor = c;
   inverse = h.inverse;
   row = pushed_as h.row (λ i l. h.multiplied.multiplied i (rw h.width l));
-  trace_row = pushed_as h.trace_row (λ i l.
-      h.trace_multiplied.multiplied i (rw (length-set u r 1, h.trace_width) l)
+  trace_row = cornered_as h.trace_row (λ i l.
+      h.trace_multiplied.multiplied i (rw (length-set u r 1) (omega (arith, h.trace_width, l)))
       ∙ ap (λ z. (c * z) % p) (elim (cases_eq i r) [
         | inl same ↦
-            ap (λ k. get_or (set u r 1) k 0) same ∙ get_or-set_same u r 1 0 h.room
-            ∙ sym (cond-true {A = ℕ} (eqb i a.rows) 1 (get_or u i 0) (eq-eqb i a.rows (same ∙ h.height)))
+            let inside : r < length u = omega (arith, h.height, h.square, h.trace_width) in
+            ap (λ k. get_or (set u r 1) k 0) same ∙ get_or-set_same u r 1 0 inside
+            ∙ sym (cond-true {A = ℕ} (eqb i t.rows) 1 (get_or u i 0) (eq-eqb i t.rows (same ∙ h.height)))
         | inr other ↦
             get_or-set_other u r i 1 0 other
-            ∙ sym (cond-false {A = ℕ} (eqb i a.rows) 1 (get_or u i 0) (ne_eqb i a.rows (λ e. other (e ∙ sym
+            ∙ sym (cond-false {A = ℕ} (eqb i t.rows) 1 (get_or u i 0) (ne_eqb i t.rows (λ e. other (e ∙ sym
             h.height))))
       ]));
   numbers = h.numbers;

@@ -15,6 +15,7 @@ pub mod ReducedFormLemmas
 pub mod LawLemmas
 pub mod KeptColumnLemmas
 pub mod KeptKernelLemmas
+pub mod TriangleLemmas
 pub mod GrowthLemmas
 pub mod GrownLemmas
 pub mod ChosenLemmas

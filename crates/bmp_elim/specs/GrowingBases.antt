@@ -1,7 +1,6 @@
 -- A basis that grows as rows come one at a time: of these some are chosen, and reduced rows are kept, one for each
 -- of the chosen ones.
 --   chosen_rows chosen old              the matrix of the chosen rows of old
---   narrowed n t                        the first n columns of t
 --   IsRowCombination p a v              v is a combination of the rows of a
 --   HasLeading a ps                     each row leads with a 1, at its place of ps, and is 0 at the places before it
 --                                       in ps
@@ -16,7 +15,7 @@
 --   IsMultiplied p c old new            each number times c, modulo p
 --   IsNegated p n numbers v             v has the first n numbers, each times p - 1
 --   IsPivotPushed p j w u a t new_a new_t   a remainder that leads at j is a row more
-use Rattle.std.specs.Prelude.{◌≡◌, ◌≢◌, ℕ, ◌-◌, ◌*◌, ◌%◌, ◌<◌, ◌≤◌, ◌⊎◌, ◌==◌, if◌then◌else◌, List, [], ◌∷◌, ◌++◌, length, slice_index}
+use Rattle.std.specs.Prelude.{◌≡◌, ◌≢◌, ℕ, ◌-◌, ◌*◌, ◌%◌, ◌<◌, ◌⊎◌, ◌==◌, if◌then◌else◌, List, [], ◌∷◌, ◌++◌, length, slice_index}
 use Rattle.bmp_math.specs.Congruences.{SameMod}
 use Rattle.bmp_math.specs.Vectors.{SameVector, plus}
 use Rattle.bmp_math.specs.Matrices.{Matrix, NumbersBelow, combination}
@@ -25,12 +24,10 @@ use Rattle.bmp_linear.specs.SparseVectors.{FitsBelow, ValuesBelow, number_at}
 use Rattle.bmp_linear.specs.RowChanges.{IsRowPushed}
 use Rattle.bmp_elim.specs.Traces.{IsTrace}
 use Rattle.bmp_elim.specs.Extensions.{AreChosen}
+use Rattle.bmp_elim.specs.Triangles.{IsCornered}
 
 abbrev pub chosen_rows : List ℕ → Matrix → Matrix
 chosen_rows chosen old = record { rows = length chosen; cols = old.cols; entry = λ k. old.entry (slice_index chosen k) }
-
-abbrev pub narrowed : ℕ → Matrix → Matrix
-narrowed n t = record { rows = t.rows; cols = n; entry = t.entry }
 
 pub record IsRowCombination (p : ℕ) (a : Matrix) (v : ℕ → ℕ) : Type 0 where
   pub factors : ℕ → ℕ
@@ -44,14 +41,12 @@ pub record HasLeading (a : Matrix) (ps : List ℕ) : Type 0 where
   pub zero_before : (k j : ℕ) → k < length ps → j < slice_index ps k → a.entry k j ≡ 0
   pub zero_earlier : (k l : ℕ) → k < length ps → l < k → a.entry k (slice_index ps l) ≡ 0
 
--- the trace t has a row and a column for each chosen row, and past these columns it is 0
+-- the trace t has a row and a column for each chosen row
 pub record IsGrown (p : ℕ) (old a t : Matrix) (ps chosen : List ℕ) (count : ℕ) : Type 0 where
   pub as_many : old.rows ≡ count
   pub choice : AreChosen old chosen
   pub leading : HasLeading a ps
-  pub trace : IsTrace p (chosen_rows chosen old) a (narrowed (length chosen) t)
-  pub width : t.cols ≡ a.cols
-  pub zero_after : (k l : ℕ) → k < length chosen → length chosen ≤ l → l < t.cols → t.entry k l ≡ 0
+  pub trace : IsTrace p (chosen_rows chosen old) a t
   pub numbers : NumbersBelow p a
   pub trace_numbers : NumbersBelow p t
   pub written : (i : ℕ) → i < old.rows → IsRowCombination p a (old.entry i)
@@ -91,7 +86,7 @@ pub record IsPivotPushed (p j : ℕ) (w u : List ℕ) (a t new_a new_t : Matrix)
   pub factor : ℕ
   pub inverse : SameMod p (slice_index w j * factor) 1
   pub row : IsRowPushed a new_a (λ i. (factor * slice_index w i) % p)
-  pub trace_row : IsRowPushed t new_t (λ l. (factor * (if l == a.rows then 1 else slice_index u l)) % p)
+  pub trace_row : IsCornered t new_t (λ l. (factor * (if l == t.rows then 1 else slice_index u l)) % p)
   pub numbers : NumbersBelow p new_a
   pub trace_numbers : NumbersBelow p new_t
 

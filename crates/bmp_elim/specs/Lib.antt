@@ -10,4 +10,5 @@ pub mod Columns
 pub mod Laws
 pub mod KeptColumns
 pub mod Eliminations
+pub mod Triangles
 pub mod GrowingBases

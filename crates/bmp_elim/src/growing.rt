@@ -1,16 +1,22 @@
 //! A basis of the span of rows that come one at a time.
+//!
+//! With r rows chosen so far, of n numbers each, a basis keeps r n numbers of reduced rows and r (r + 1) / 2 of their
+//! trace, whatever number of rows came. `grow_basis` and `write_row` take a time linear in (r + 1) (n + r), and
+//! `eliminate_chosen` one linear in (r + 1)^2 (n + r).
 ghost use Rattle.std.specs.Prelude.{◌≡◌, ◌≢◌, ◌↔◌, ℕ, ◌+◌, ◌^◌, ◌<◌, ◌≤◌, [], ◌∷◌, ◌++◌, length, slice_index, IfOk, EachIndex, MatchOption};
-ghost use Rattle.bmp_math.specs.Matrices.{Matrix, NumbersBelow, SameMatrix};
+ghost use Rattle.bmp_math.specs.Matrices.{Matrix, NumbersBelow};
 ghost use Rattle.bmp_field.specs.Runs.{AreBelow};
 ghost use Rattle.bmp_linear.specs.SparseVectors.{FitsBelow, ValuesBelow, number_at};
 ghost use Rattle.bmp_linear.specs.RowChanges.{IsRowPushed, HoldsNumbers};
-ghost use Rattle.bmp_elim.specs.GrowingBases.{chosen_rows, IsRowCombination, HasLeading, IsGrown, GrewFromSome, IsKeptOrMore, WritesRow, IsRemainder, IsFirstPlace, IsMultiplied, IsPivotPushed, IsNegated, narrowed};
+ghost use Rattle.bmp_elim.specs.GrowingBases.{chosen_rows, IsRowCombination, HasLeading, IsGrown, GrewFromSome, IsKeptOrMore, WritesRow, IsRemainder, IsFirstPlace, IsMultiplied, IsPivotPushed, IsNegated};
 ghost use Rattle.bmp_elim.specs.Eliminations.{IsReducedOf};
+ghost use Rattle.bmp_elim.specs.Triangles.{square_of};
 
 use crate::eliminate::eliminate;
 use crate::eliminated::Eliminated;
+use crate::triangle::Triangle;
 use bmp_field::Field;
-use bmp_linear::{Places, RowSpace, Rows, Vector};
+use bmp_linear::{Places, RowSpace, Rows, Vector, stored};
 use std::alloc::{AllocError, Global};
 
 /// A basis of the span of rows that came one at a time: of these it names those that were chosen, and keeps
@@ -25,9 +31,9 @@ pub struct GrowingBasis<A: Drop> {
     pub rows: A,
     /// The pivots, in the order of the chosen rows.
     pub pivots: Places,
-    /// For each reduced row the numbers by which the chosen rows combine to it. It has as many columns as a
-    /// row has, of which those past the number of chosen rows are 0.
-    pub trace: A,
+    /// For each reduced row the numbers by which the chosen rows combine to it, one for each chosen row. A row
+    /// needs none of those that are chosen after it.
+    pub trace: Triangle,
 }
 
 /// The basis of no rows of `cols` numbers, kept as the rows of `like` are. Takes no memory.
@@ -38,9 +44,9 @@ pub fn empty_basis<F: Field, A: RowSpace<F>>(
     cols: u32,
 ) -> GrowingBasis<A>
     ensures grown { (old : Matrix) → old.rows ≡ 0 → old.cols ≡ cols
-        → IsGrown (F.size f.now) old (A.matrix result.rows) (A.matrix result.trace) result.pivots result.chosen
+        → IsGrown (F.size f.now) old (A.matrix result.rows) (square_of result.trace) result.pivots result.chosen
         result.count }
-    ensures some { GrewFromSome (F.size f.now) (A.matrix result.rows) (A.matrix result.trace) result.pivots
+    ensures some { GrewFromSome (F.size f.now) (A.matrix result.rows) (square_of result.trace) result.pivots
         result.chosen result.count }
     ensures count { result.count ≡ 0 }
     ensures cols { (A.matrix result.rows).cols ≡ cols }
@@ -51,7 +57,7 @@ pub fn empty_basis<F: Field, A: RowSpace<F>>(
         chosen: Places::new(alloc),
         rows: like.empty(cols),
         pivots: Places::new(alloc),
-        trace: like.empty(cols),
+        trace: Triangle::new(alloc),
     }
 }
 
@@ -60,19 +66,19 @@ pub fn empty_basis<F: Field, A: RowSpace<F>>(
 fn reduce_row<F: Field, A: Rows<F>>(
     f: &F,
     rows: &A,
-    trace: &A,
+    trace: &Triangle,
     pivots: &Places,
     numbers: &mut [u8],
     factors: &mut [u8],
 )
     requires numbers { NumbersBelow (F.size f.now) (A.matrix rows.now) }
-    requires trace_numbers { NumbersBelow (F.size f.now) (A.matrix trace.now) }
+    requires trace_numbers { NumbersBelow (F.size f.now) (square_of trace.now) }
     requires leading { HasLeading (A.matrix rows.now) pivots.now }
-    requires trace_rows { length pivots.now ≤ (A.matrix trace.now).rows }
+    requires trace_rows { length pivots.now ≤ (square_of trace.now).rows }
     requires row { HoldsNumbers (F.size f.now) (A.matrix rows.now).cols numbers.old }
-    requires factors_room { length factors.old ≡ (A.matrix trace.now).cols }
+    requires factors_room { (square_of trace.now).cols ≤ length factors.old }
     requires factors { EachIndex factors.old (λ j. slice_index factors.old j ≡ 0) }
-    ensures { IsRemainder (F.size f.now) (length pivots.now) (A.matrix rows.now) (A.matrix trace.now) pivots.now
+    ensures { IsRemainder (F.size f.now) (length pivots.now) (A.matrix rows.now) (square_of trace.now) pivots.now
         (slice_index numbers.old) numbers.new factors.new }
 {
     for k in 0..pivots.len() {
@@ -122,16 +128,15 @@ fn push_pivot<F: Field, A: RowSpace<F>>(
     factors: &mut [u8],
 ) -> Result<GrowingBasis<A>, AllocError>
     requires row_numbers { NumbersBelow (F.size f.now) (A.matrix basis.rows) }
-    requires trace_numbers { NumbersBelow (F.size f.now) (A.matrix basis.trace) }
+    requires trace_numbers { NumbersBelow (F.size f.now) (square_of basis.trace) }
     requires count { basis.count + 1 < 2 ^ 32 }
     requires width { length numbers.old ≡ (A.matrix basis.rows).cols }
-    requires trace_width { length factors.old ≡ (A.matrix basis.trace).cols }
+    requires trace_width { length factors.old ≡ (square_of basis.trace).cols + 1 }
     requires numbers { AreBelow (F.size f.now) numbers.old }
-    requires factors { AreBelow (F.size f.now) factors.old }
+    requires factors { HoldsNumbers (F.size f.now) (square_of basis.trace).cols factors.old }
     requires pivot { IsFirstPlace numbers.old pivot }
-    requires room { (A.matrix basis.rows).rows < length factors.old }
     ensures pushed { IfOk result (λ b. IsPivotPushed (F.size f.now) pivot numbers.old factors.old
-        (A.matrix basis.rows) (A.matrix basis.trace) (A.matrix b.rows) (A.matrix b.trace)) }
+        (A.matrix basis.rows) (square_of basis.trace) (A.matrix b.rows) (square_of b.trace)) }
     ensures pivots { IfOk result (λ b. b.pivots ≡ basis.pivots ++ pivot ∷ []) }
     ensures chosen { IfOk result (λ b. b.chosen ≡ basis.chosen ++ basis.count ∷ []) }
     ensures count { IfOk result (λ b. b.count ≡ basis.count + 1) }
@@ -139,10 +144,10 @@ fn push_pivot<F: Field, A: RowSpace<F>>(
     let mut basis = basis;
     let c = f.inv(f.from_num(u32::from(numbers[pivot as usize])));
     multiply(f, c, numbers);
-    factors[basis.rows.rows() as usize] = 1;
+    factors[basis.trace.size() as usize] = 1;
     multiply(f, c, factors);
     basis.rows.push_numbers(f, numbers)?;
-    basis.trace.push_numbers(f, factors)?;
+    basis.trace.push(factors)?;
     basis.pivots.push(pivot)?;
     basis.chosen.push(basis.count)?;
     basis.count += 1;
@@ -157,22 +162,22 @@ fn grown<F: Field, A: RowSpace<F>>(
     numbers: &mut [u8],
     factors: &mut [u8],
 ) -> Result<GrowingBasis<A>, AllocError>
-    requires some { GrewFromSome (F.size f.now) (A.matrix basis.rows) (A.matrix basis.trace) basis.pivots
+    requires some { GrewFromSome (F.size f.now) (A.matrix basis.rows) (square_of basis.trace) basis.pivots
         basis.chosen basis.count }
     requires count { basis.count + 1 < 2 ^ 32 }
     requires fits { FitsBelow row.now (A.matrix basis.rows).cols }
     requires values { ValuesBelow row.now (F.size f.now) }
     requires width { length numbers.old ≡ (A.matrix basis.rows).cols }
     requires limit { (A.matrix basis.rows).cols < 2 ^ 32 }
-    requires trace_width { length factors.old ≡ (A.matrix basis.trace).cols }
+    requires trace_width { length factors.old ≡ (square_of basis.trace).cols + 1 }
     requires zeros { EachIndex factors.old (λ j. slice_index factors.old j ≡ 0) }
     ensures grown { IfOk result (λ b. (old new : Matrix)
-        → IsGrown (F.size f.now) old (A.matrix basis.rows) (A.matrix basis.trace) basis.pivots basis.chosen basis.count
+        → IsGrown (F.size f.now) old (A.matrix basis.rows) (square_of basis.trace) basis.pivots basis.chosen basis.count
         → IsRowPushed old new (number_at row.now)
-        → IsGrown (F.size f.now) new (A.matrix b.rows) (A.matrix b.trace) b.pivots b.chosen b.count) }
+        → IsGrown (F.size f.now) new (A.matrix b.rows) (square_of b.trace) b.pivots b.chosen b.count) }
     ensures chosen { IfOk result (λ b. IsKeptOrMore basis.chosen basis.count b.chosen) }
     ensures needed { IfOk result (λ b. (old : Matrix)
-        → IsGrown (F.size f.now) old (A.matrix basis.rows) (A.matrix basis.trace) basis.pivots basis.chosen basis.count
+        → IsGrown (F.size f.now) old (A.matrix basis.rows) (square_of basis.trace) basis.pivots basis.chosen basis.count
         → (b.chosen ≡ basis.chosen)
         ↔ IsRowCombination (F.size f.now) (chosen_rows basis.chosen old) (number_at row.now)) }
     ensures count { IfOk result (λ b. b.count ≡ basis.count + 1) }
@@ -198,26 +203,27 @@ fn grown<F: Field, A: RowSpace<F>>(
 }
 
 /// The basis of the rows that came and of one row more. That is chosen where it is no combination of those.
-/// Wants memory also where 2^32 - 1 rows came.
+/// A multiple of each reduced row is added to it at most once, and that of the row's trace to its factors. Wants
+/// memory also where 2^32 - 1 rows came.
 pub fn grow_basis<F: Field, A: RowSpace<F>>(
     alloc: Global,
     f: &F,
     basis: GrowingBasis<A>,
     row: &Vector,
 ) -> Result<GrowingBasis<A>, AllocError>
-    requires some { GrewFromSome (F.size f.now) (A.matrix basis.rows) (A.matrix basis.trace) basis.pivots
+    requires some { GrewFromSome (F.size f.now) (A.matrix basis.rows) (square_of basis.trace) basis.pivots
         basis.chosen basis.count }
     requires fits { FitsBelow row.now (A.matrix basis.rows).cols }
     requires values { ValuesBelow row.now (F.size f.now) }
     ensures grown { IfOk result (λ b. (old new : Matrix)
-        → IsGrown (F.size f.now) old (A.matrix basis.rows) (A.matrix basis.trace) basis.pivots basis.chosen basis.count
+        → IsGrown (F.size f.now) old (A.matrix basis.rows) (square_of basis.trace) basis.pivots basis.chosen basis.count
         → IsRowPushed old new (number_at row.now)
-        → IsGrown (F.size f.now) new (A.matrix b.rows) (A.matrix b.trace) b.pivots b.chosen b.count) }
-    ensures some { IfOk result (λ b. GrewFromSome (F.size f.now) (A.matrix b.rows) (A.matrix b.trace) b.pivots
+        → IsGrown (F.size f.now) new (A.matrix b.rows) (square_of b.trace) b.pivots b.chosen b.count) }
+    ensures some { IfOk result (λ b. GrewFromSome (F.size f.now) (A.matrix b.rows) (square_of b.trace) b.pivots
         b.chosen b.count) }
     ensures chosen { IfOk result (λ b. IsKeptOrMore basis.chosen basis.count b.chosen) }
     ensures needed { IfOk result (λ b. (old : Matrix)
-        → IsGrown (F.size f.now) old (A.matrix basis.rows) (A.matrix basis.trace) basis.pivots basis.chosen basis.count
+        → IsGrown (F.size f.now) old (A.matrix basis.rows) (square_of basis.trace) basis.pivots basis.chosen basis.count
         → (b.chosen ≡ basis.chosen)
         ↔ IsRowCombination (F.size f.now) (chosen_rows basis.chosen old) (number_at row.now)) }
     ensures count { IfOk result (λ b. b.count ≡ basis.count + 1) }
@@ -227,7 +233,7 @@ pub fn grow_basis<F: Field, A: RowSpace<F>>(
         return Err(AllocError);
     }
     let mut numbers = vec![in alloc; 0; basis.rows.cols() as usize]?;
-    let mut factors = vec![in alloc; 0; basis.trace.cols() as usize]?;
+    let mut factors = vec![in alloc; 0; basis.trace.size() as usize + 1]?;
     let more = grown(f, basis, row, &mut numbers, &mut factors)?;
     Ok(more)
 }
@@ -256,16 +262,16 @@ fn written<F: Field, A: Rows<F> + Drop>(
     numbers: &mut [u8],
     factors: &mut [u8],
 ) -> Result<Option<Vector>, AllocError>
-    requires some { GrewFromSome (F.size f.now) (A.matrix basis.now.rows) (A.matrix basis.now.trace) basis.now.pivots
+    requires some { GrewFromSome (F.size f.now) (A.matrix basis.now.rows) (square_of basis.now.trace) basis.now.pivots
         basis.now.chosen basis.now.count }
     requires fits { FitsBelow row.now (A.matrix basis.now.rows).cols }
     requires values { ValuesBelow row.now (F.size f.now) }
     requires width { length numbers.old ≡ (A.matrix basis.now.rows).cols }
     requires limit { (A.matrix basis.now.rows).cols < 2 ^ 32 }
-    requires trace_width { length factors.old ≡ (A.matrix basis.now.trace).cols }
+    requires trace_width { length factors.old ≡ (square_of basis.now.trace).cols }
     requires zeros { EachIndex factors.old (λ j. slice_index factors.old j ≡ 0) }
     ensures { IfOk result (λ answer. (old : Matrix)
-        → IsGrown (F.size f.now) old (A.matrix basis.now.rows) (A.matrix basis.now.trace) basis.now.pivots
+        → IsGrown (F.size f.now) old (A.matrix basis.now.rows) (square_of basis.now.trace) basis.now.pivots
         basis.now.chosen basis.now.count
         → MatchOption answer (¬ IsRowCombination (F.size f.now) (chosen_rows basis.now.chosen old) (number_at row.now))
         (WritesRow (F.size f.now) old basis.now.chosen (number_at row.now))) }
@@ -288,74 +294,44 @@ fn written<F: Field, A: Rows<F> + Drop>(
     }
 }
 
-/// The numbers by which the chosen rows combine to a row, one for each, or nothing where none do.
+/// The numbers by which the chosen rows combine to a row, one for each, or nothing where none do. Takes the time of
+/// `grow_basis`.
 pub fn write_row<F: Field, A: Rows<F> + Drop>(
     alloc: Global,
     f: &F,
     basis: &GrowingBasis<A>,
     row: &Vector,
 ) -> Result<Option<Vector>, AllocError>
-    requires some { GrewFromSome (F.size f.now) (A.matrix basis.now.rows) (A.matrix basis.now.trace) basis.now.pivots
+    requires some { GrewFromSome (F.size f.now) (A.matrix basis.now.rows) (square_of basis.now.trace) basis.now.pivots
         basis.now.chosen basis.now.count }
     requires fits { FitsBelow row.now (A.matrix basis.now.rows).cols }
     requires values { ValuesBelow row.now (F.size f.now) }
     ensures { IfOk result (λ answer. (old : Matrix)
-        → IsGrown (F.size f.now) old (A.matrix basis.now.rows) (A.matrix basis.now.trace) basis.now.pivots
+        → IsGrown (F.size f.now) old (A.matrix basis.now.rows) (square_of basis.now.trace) basis.now.pivots
         basis.now.chosen basis.now.count
         → MatchOption answer (¬ IsRowCombination (F.size f.now) (chosen_rows basis.now.chosen old) (number_at row.now))
         (WritesRow (F.size f.now) old basis.now.chosen (number_at row.now))) }
 {
     let mut numbers = vec![in alloc; 0; basis.rows.cols() as usize]?;
-    let mut factors = vec![in alloc; 0; basis.trace.cols() as usize]?;
+    let mut factors = vec![in alloc; 0; basis.trace.size() as usize]?;
     let answer = written(alloc, f, basis, row, &mut numbers, &mut factors)?;
     Ok(answer)
 }
 
-/// Writes the numbers of a row.
-fn read_numbers<F: Field, A: Rows<F>>(f: &F, a: &A, i: u32, numbers: &mut [u8])
-    requires numbers { NumbersBelow (F.size f.now) (A.matrix a.now) }
-    requires row { i < (A.matrix a.now).rows }
-    requires room { length numbers.old ≡ (A.matrix a.now).cols }
-    ensures { (j : ℕ) → j < (A.matrix a.now).cols → slice_index numbers.new j ≡ (A.matrix a.now).entry i j }
-{
-    numbers.fill(0);
-    a.add_row_to(f, i, f.one(), numbers);
-}
-
-/// The first columns, as rows that are kept in the same way.
-fn first_columns<F: Field, A: RowSpace<F>>(
-    alloc: Global,
-    f: &F,
-    a: &A,
-    count: u32,
-) -> Result<A, AllocError>
-    requires numbers { NumbersBelow (F.size f.now) (A.matrix a.now) }
-    requires count { count ≤ (A.matrix a.now).cols }
-    ensures same { IfOk result (λ b. SameMatrix (A.matrix b) (narrowed count (A.matrix a.now))) }
-    ensures numbers { IfOk result (λ b. NumbersBelow (F.size f.now) (A.matrix b)) }
-{
-    let mut first = a.empty(count);
-    let mut numbers = vec![in alloc; 0; a.cols() as usize]?;
-    for i in 0..a.rows() {
-        read_numbers(f, a, i, &mut numbers);
-        first.push_numbers(f, &numbers[..count as usize])?;
-    }
-    Ok(first)
-}
-
-/// The elimination of the chosen rows, with a trace of as many rows and columns as were chosen.
+/// The elimination of the chosen rows, with a trace of as many rows and columns as were chosen. It begins at the
+/// reduced rows and a copy of their trace, and for each of them adds to all others at most once.
 pub fn eliminate_chosen<F: Field, A: RowSpace<F>>(
     alloc: Global,
     f: &F,
     basis: GrowingBasis<A>,
 ) -> Result<Eliminated<A>, AllocError>
-    requires { GrewFromSome (F.size f.now) (A.matrix basis.rows) (A.matrix basis.trace) basis.pivots
+    requires { GrewFromSome (F.size f.now) (A.matrix basis.rows) (square_of basis.trace) basis.pivots
         basis.chosen basis.count }
     ensures { IfOk result (λ e. (old : Matrix)
-        → IsGrown (F.size f.now) old (A.matrix basis.rows) (A.matrix basis.trace) basis.pivots basis.chosen basis.count
+        → IsGrown (F.size f.now) old (A.matrix basis.rows) (square_of basis.trace) basis.pivots basis.chosen basis.count
         → IsReducedOf (F.size f.now) (chosen_rows basis.chosen old) (A.matrix e.rows) (A.matrix e.trace) e.pivots) }
 {
-    let mut trace = first_columns(alloc, f, &basis.trace, basis.chosen.len())?;
+    let mut trace = stored(alloc, f, &basis.trace, &basis.rows)?;
     let mut rows = basis.rows;
     let pivots = eliminate(alloc, f, &mut rows, &mut trace)?;
     Ok(Eliminated {

@@ -2,7 +2,8 @@ use Rattle.std.proofs.Common.{◌≡◌, ◌-◌, ◌*◌, ◌<◌, ◌≤◌, l
 use Rattle.bmp_linear.specs.SparseVectors.{number_at}
 use Rattle.bmp_linear.proofs.SparseLemmas.{number_at-below}
 use Rattle.bmp_elim.specs.GrowingBases.{IsRemainder}
-use Rattle.bmp_elim.proofs.GrowthLemmas.{remainder_as, leading_few}
+use Rattle.bmp_elim.specs.Triangles.{square_of}
+use Rattle.bmp_elim.proofs.GrowthLemmas.{remainder_as}
 use Rattle.bmp_elim.proofs.GrownLemmas.{longer, pushed_made, grown_kept, grown_more, nothing_left, written_by_chosen}
 use Rattle.bmp_elim.proofs.growing.grown.Goals as goal
 
@@ -14,21 +15,6 @@ reduce_row-requires-clause-row g c =
       below = λ j l. rw (c.spread.ensures j (omega (arith, c.requires.width, c.spread.auto.into, l)))
           (number_at-below c.args.row.now _ j (omega arith) c.requires.values);
     }
-
-pub push_pivot-requires-clause-room : goal.push_pivot-requires-clause-room
-push_pivot-requires-clause-room g c =
-    let grown = c.requires.some.grown in
-    let within : c.in-Some.pivot < (g.A.Rows.matrix c.args.basis.rows).cols = omega (
-      arith,
-      c.requires.width,
-      c.spread.auto.into,
-      c.reduce_row.auto.numbers,
-      c.in-Some.ensures.within,
-    ) in
-    let few : (g.A.Rows.matrix c.args.basis.rows).rows < (g.A.Rows.matrix c.args.basis.rows).cols =
-    leading_few c.reduce_row.new.numbers c.in-Some.pivot grown.leading c.reduce_row.ensures.zero within
-    c.in-Some.ensures.not_zero in
-    omega (arith, few, c.requires.trace_width, grown.width, c.reduce_row.auto.factors)
 
 -- what is left is a reduced row more
 pub returns-in_ok-push_pivot-in-Some-clause-grown : goal.returns-in_ok-push_pivot-in-Some-clause-grown
@@ -42,20 +28,13 @@ returns-in_ok-push_pivot-in-Some-clause-grown g c = λ old new h pushed.
       c.reduce_row.auto.numbers,
     ) in
     let left : IsRemainder p (length c.args.basis.pivots) (g.A.Rows.matrix c.args.basis.rows)
-    (g.A.Rows.matrix c.args.basis.trace) c.args.basis.pivots (number_at c.args.row.now) c.reduce_row.new.numbers
+    (square_of c.args.basis.trace) c.args.basis.pivots (number_at c.args.row.now) c.reduce_row.new.numbers
     c.reduce_row.new.factors =
     remainder_as (λ j l. c.spread.ensures j (omega (arith, c.requires.width, c.spread.auto.into, l)))
     c.reduce_row.ensures in
-    let within : c.in-Some.pivot < (g.A.Rows.matrix c.args.basis.rows).cols = omega (
-      arith,
-      wide,
-      c.in-Some.ensures.within,
-    ) in
-    let few = leading_few c.reduce_row.new.numbers c.in-Some.pivot h.leading left.zero within
-    c.in-Some.ensures.not_zero in
     let b = c.in_ok-push_pivot-in-Some in
     rw (b.ensures.pivots, b.ensures.chosen, b.ensures.count)
-    (grown_more two h pushed left few c.in-Some.ensures wide b.ensures.pushed)
+    (grown_more two h pushed left c.in-Some.ensures wide b.ensures.pushed)
 
 -- it is a combination of the reduced rows
 pub returns-in-None-clause-grown : goal.returns-in-None-clause-grown
@@ -69,7 +48,7 @@ returns-in-None-clause-grown g c = λ old new h pushed.
       c.reduce_row.auto.numbers,
     ) in
     let left : IsRemainder p (length c.args.basis.pivots) (g.A.Rows.matrix c.args.basis.rows)
-    (g.A.Rows.matrix c.args.basis.trace) c.args.basis.pivots (number_at c.args.row.now) c.reduce_row.new.numbers
+    (square_of c.args.basis.trace) c.args.basis.pivots (number_at c.args.row.now) c.reduce_row.new.numbers
     c.reduce_row.new.factors =
     remainder_as (λ j l. c.spread.ensures j (omega (arith, c.requires.width, c.spread.auto.into, l)))
     c.reduce_row.ensures in
@@ -79,7 +58,7 @@ pub returns-in_ok-push_pivot-in-Some-clause-needed : goal.returns-in_ok-push_piv
 returns-in_ok-push_pivot-in-Some-clause-needed g c = λ old h.
     let p = g.F.Field.size c.args.f.now in
     let left : IsRemainder p (length c.args.basis.pivots) (g.A.Rows.matrix c.args.basis.rows)
-    (g.A.Rows.matrix c.args.basis.trace) c.args.basis.pivots (number_at c.args.row.now) c.reduce_row.new.numbers
+    (square_of c.args.basis.trace) c.args.basis.pivots (number_at c.args.row.now) c.reduce_row.new.numbers
     c.reduce_row.new.factors =
     remainder_as (λ j l. c.spread.ensures j (omega (arith, c.requires.width, c.spread.auto.into, l)))
     c.reduce_row.ensures in
@@ -106,7 +85,7 @@ returns-in-None-clause-needed g c = λ old h.
       c.reduce_row.auto.numbers,
     ) in
     let left : IsRemainder p (length c.args.basis.pivots) (g.A.Rows.matrix c.args.basis.rows)
-    (g.A.Rows.matrix c.args.basis.trace) c.args.basis.pivots (number_at c.args.row.now) c.reduce_row.new.numbers
+    (square_of c.args.basis.trace) c.args.basis.pivots (number_at c.args.row.now) c.reduce_row.new.numbers
     c.reduce_row.new.factors =
     remainder_as (λ j l. c.spread.ensures j (omega (arith, c.requires.width, c.spread.auto.into, l)))
     c.reduce_row.ensures in (

@@ -2,7 +2,8 @@ use Rattle.std.proofs.Common.{◌≡◌, ◌≤◌, length, arith}
 use Rattle.bmp_linear.specs.SparseVectors.{number_at}
 use Rattle.bmp_linear.proofs.SparseLemmas.{number_at-below}
 use Rattle.bmp_elim.specs.GrowingBases.{IsRemainder, IsNegated}
-use Rattle.bmp_elim.proofs.GrowthLemmas.{remainder_as, leading_narrow}
+use Rattle.bmp_elim.specs.Triangles.{square_of}
+use Rattle.bmp_elim.proofs.GrowthLemmas.{remainder_as}
 use Rattle.bmp_elim.proofs.GrownLemmas.{pushed_made, nothing_left, written_by_chosen, writes_made}
 use Rattle.bmp_elim.proofs.growing.written.Goals as goal
 
@@ -15,19 +16,11 @@ reduce_row-requires-clause-row g c =
           (number_at-below c.args.row.now _ j (omega arith) c.requires.values);
     }
 
--- there are as many factors as columns
-pub negated_vector-requires-clause-room : goal.negated_vector-requires-clause-room
-negated_vector-requires-clause-room g c =
-    let grown = c.requires.some.grown in
-    let low : (g.A.Rows.matrix c.args.basis.now.rows).rows ≤ (g.A.Rows.matrix c.args.basis.now.rows).cols =
-    leading_narrow grown.leading in
-    omega (arith, c.len.ensures, grown.trace.rows, low, grown.width, c.requires.trace_width, c.reduce_row.auto.factors)
-
 -- something is left
 pub returns-in-Some : goal.returns-in-Some
 returns-in-Some g c = λ old h made.
     let left : IsRemainder (g.F.Field.size c.args.f.now) (length c.args.basis.now.pivots)
-    (g.A.Rows.matrix c.args.basis.now.rows) (g.A.Rows.matrix c.args.basis.now.trace) c.args.basis.now.pivots
+    (g.A.Rows.matrix c.args.basis.now.rows) (square_of c.args.basis.now.trace) c.args.basis.now.pivots
     (number_at c.args.row.now) c.reduce_row.new.numbers c.reduce_row.new.factors =
     remainder_as (λ j l. c.spread.ensures j (omega (arith, c.requires.width, c.spread.auto.into, l)))
     c.reduce_row.ensures in
@@ -51,7 +44,7 @@ returns-in_ok-vector-in-None g c = λ old h.
       c.reduce_row.auto.numbers,
     ) in
     let left : IsRemainder p (length c.args.basis.now.pivots) (g.A.Rows.matrix c.args.basis.now.rows)
-    (g.A.Rows.matrix c.args.basis.now.trace) c.args.basis.now.pivots (number_at c.args.row.now)
+    (square_of c.args.basis.now.trace) c.args.basis.now.pivots (number_at c.args.row.now)
     c.reduce_row.new.numbers c.reduce_row.new.factors =
     remainder_as (λ j l. c.spread.ensures j (omega (arith, c.requires.width, c.spread.auto.into, l)))
     c.reduce_row.ensures in
