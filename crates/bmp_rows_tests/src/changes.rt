@@ -5,7 +5,9 @@ ghost use Rattle.bmp_field.specs.PrimeFields.{size_of};
 
 use crate::matrices::{field, made, numbers_of};
 use bmp_field::{Field, PrimeField};
-use bmp_linear::{DenseRows, Entry, RowSpace, Rows, SparseRows, Turned, row_vector, stored};
+use bmp_linear::{
+    DenseRows, Entry, MixedRows, RowSpace, Rows, SparseRows, Turned, row_vector, stored,
+};
 use std::alloc::{AllocError, Global};
 use std::process::Abort;
 use std::test::Fail;
@@ -152,7 +154,8 @@ fn rows_are_changed(rt: HostRuntime) -> Result<(), Fail> {
     let alloc = rt.alloc();
     let f = field(3)?;
     judge_changes(&rt, alloc, &f, DenseRows::new(alloc, 2))?;
-    judge_changes(&rt, alloc, &f, SparseRows::new(alloc, 2))
+    judge_changes(&rt, alloc, &f, SparseRows::new(alloc, 2))?;
+    judge_changes(&rt, alloc, &f, MixedRows::new(alloc, 2))
 }
 
 /// The columns of the rows (1, 0, 5) and (0, 2, 0) modulo 61, stored.
@@ -188,7 +191,8 @@ fn views_are_stored(rt: HostRuntime) -> Result<(), Fail> {
     let alloc = rt.alloc();
     let f = field(61)?;
     judge_stored(&rt, alloc, &f, DenseRows::new(alloc, 3))?;
-    judge_stored(&rt, alloc, &f, SparseRows::new(alloc, 3))
+    judge_stored(&rt, alloc, &f, SparseRows::new(alloc, 3))?;
+    judge_stored(&rt, alloc, &f, MixedRows::new(alloc, 3))
 }
 
 #[test]

@@ -6,8 +6,8 @@ ghost use Rattle.bmp_field.specs.PrimeFields.{size_of};
 use crate::matrices::{field, made};
 use bmp_field::{Field, PrimeField};
 use bmp_linear::{
-    DenseRows, KernelEvidence, Places, RowFault, Rows, Scratch, SparseRows, Turned, Vector,
-    Vectors, check_combination, check_dual, check_kernel,
+    DenseRows, KernelEvidence, MixedRows, Places, RowFault, Rows, Scratch, SparseRows, Turned,
+    Vector, Vectors, check_combination, check_dual, check_kernel,
 };
 use std::alloc::{AllocError, Global};
 use std::process::Abort;
@@ -187,6 +187,12 @@ fn one_row_modulo_3(rt: HostRuntime) -> Result<(), Fail> {
         alloc,
         &f,
         &made(&rt, alloc, &f, SparseRows::new(alloc, 2), &table)?,
+    )?;
+    judge(
+        &rt,
+        alloc,
+        &f,
+        &made(&rt, alloc, &f, MixedRows::new(alloc, 2), &table)?,
     )
 }
 

@@ -3,21 +3,22 @@ ghost use Rattle.std.specs.Prelude.{◌≡◌, ◌<◌, IfOk};
 ghost use Rattle.bmp_math.specs.Matrices.{Matrix, NumbersBelow};
 ghost use Rattle.bmp_field.specs.PrimeFields.{size_of};
 
+use crate::growing::judge_growth;
 use crate::plain::{Plain, multiplies, rank};
 use bmp_elim::{Solution, echelon, extend_basis, extend_columns, kernel, reduce, solve};
 use bmp_field::{Field, PrimeField};
 use bmp_linear::{
-    DenseRows, KernelEvidence, Places, RowSpace, Rows, Scratch, SparseRows, Vector, Vectors,
-    check_kernel,
+    DenseRows, KernelEvidence, MixedRows, Places, RowSpace, Rows, Scratch, SparseRows, Turned,
+    Vector, Vectors, check_kernel, stored,
 };
 use std::alloc::{AllocError, Global};
 use std::test::Fail;
 
 /// What a judge answers where all is as it should be. Otherwise it names what isn't.
-const RIGHT: &str = "right";
+pub(crate) const RIGHT: &str = "right";
 
 /// The first claim that doesn't hold.
-fn judged(claims: &[(bool, &'static str)]) -> &'static str {
+pub(crate) fn judged(claims: &[(bool, &'static str)]) -> &'static str {
     for (holds, name) in claims {
         if !*holds {
             return *name;
@@ -27,12 +28,19 @@ fn judged(claims: &[(bool, &'static str)]) -> &'static str {
 }
 
 /// The first of two judgements that isn't right.
-fn worse(first: &'static str, second: &'static str) -> &'static str {
+pub(crate) fn worse(first: &'static str, second: &'static str) -> &'static str {
     if first == RIGHT { second } else { first }
 }
 
+/// How rows are made: kept as those of `like` are, and where they are `turned`, stored from a view of their columns.
+#[derive(Drop)]
+struct Way<A: Drop> {
+    like: A,
+    turned: bool,
+}
+
 /// The matrix as rows that are kept as those of `like` are.
-fn rows_of<A: RowSpace<PrimeField>>(
+fn pushed<A: RowSpace<PrimeField>>(
     alloc: Global,
     f: &PrimeField,
     like: &A,
@@ -50,8 +58,30 @@ fn rows_of<A: RowSpace<PrimeField>>(
     Ok(a)
 }
 
+/// The matrix as rows that are made in this way.
+fn rows_of<A: RowSpace<PrimeField>>(
+    alloc: Global,
+    f: &PrimeField,
+    way: &Way<A>,
+    plain: &Plain,
+) -> Result<A, AllocError>
+    ensures { IfOk result (λ a. NumbersBelow (size_of f.now) (A.matrix a)) }
+{
+    if !way.turned {
+        let rows = pushed(alloc, f, &way.like, plain)?;
+        return Ok(rows);
+    }
+    let columns = pushed(alloc, f, &way.like, &plain.turned(alloc)?)?;
+    let rows = stored(alloc, f, &Turned::of(&columns), &way.like)?;
+    Ok(rows)
+}
+
 /// The rows as a plain matrix.
-fn plain_of<A: Rows<PrimeField>>(alloc: Global, f: &PrimeField, a: &A) -> Result<Plain, AllocError>
+pub(crate) fn plain_of<A: Rows<PrimeField>>(
+    alloc: Global,
+    f: &PrimeField,
+    a: &A,
+) -> Result<Plain, AllocError>
     requires { NumbersBelow (size_of f.now) (A.matrix a.now) }
 {
     let mut numbers = Vec::new(alloc);
@@ -64,7 +94,7 @@ fn plain_of<A: Rows<PrimeField>>(alloc: Global, f: &PrimeField, a: &A) -> Result
 }
 
 /// The vector as the row of a plain matrix.
-fn plain_vector(alloc: Global, cols: u32, vector: &Vector) -> Result<Plain, AllocError> {
+pub(crate) fn plain_vector(alloc: Global, cols: u32, vector: &Vector) -> Result<Plain, AllocError> {
     let mut plain = Plain::of(alloc, 0, cols, &[])?;
     plain.push_vector(vector)?;
     Ok(plain)
@@ -98,39 +128,50 @@ fn is_echelon(a: &Plain, pivots: &Places) -> bool {
     pivots.len() <= a.rows
 }
 
-/// Reduced rows and their trace, by multiplying.
-fn judge_reduce<A: RowSpace<PrimeField>>(
+/// Reduced rows, their trace and their pivots, by multiplying.
+pub(crate) fn judge_traced(
     alloc: Global,
-    f: &PrimeField,
     p: u8,
-    like: &A,
     old: &Plain,
+    new: &Plain,
+    trace: &Plain,
+    pivots: &Places,
 ) -> Result<&'static str, AllocError> {
-    let reduced = reduce(alloc, f, rows_of(alloc, f, like, old)?)?;
-    let new = plain_of(alloc, f, &reduced.rows)?;
-    let trace = plain_of(alloc, f, &reduced.trace)?;
     Ok(judged(&[
         ((new.rows, new.cols) == (old.rows, old.cols), "sizes"),
         (
             (trace.rows, trace.cols) == (old.rows, old.rows),
             "sizes of the trace",
         ),
-        (is_echelon(&new, &reduced.pivots), "echelon"),
-        (multiplies(p, &trace, &old.turned(alloc)?, &new), "trace"),
-        (rank(alloc, p, &trace)? == old.rows, "rank of the trace"),
-        (rank(alloc, p, old)? == reduced.pivots.len(), "rank"),
+        (is_echelon(new, pivots), "echelon"),
+        (multiplies(p, trace, &old.turned(alloc)?, new), "trace"),
+        (rank(alloc, p, trace)? == old.rows, "rank of the trace"),
+        (rank(alloc, p, old)? == pivots.len(), "rank"),
     ]))
+}
+
+fn judge_reduce<A: RowSpace<PrimeField>>(
+    alloc: Global,
+    f: &PrimeField,
+    p: u8,
+    way: &Way<A>,
+    old: &Plain,
+) -> Result<&'static str, AllocError> {
+    let reduced = reduce(alloc, f, rows_of(alloc, f, way, old)?)?;
+    let new = plain_of(alloc, f, &reduced.rows)?;
+    let trace = plain_of(alloc, f, &reduced.trace)?;
+    judge_traced(alloc, p, old, &new, &trace, &reduced.pivots)
 }
 
 /// The rows that are reduced without a trace are those that are reduced with one.
 fn judge_echelon<A: RowSpace<PrimeField>>(
     alloc: Global,
     f: &PrimeField,
-    like: &A,
+    way: &Way<A>,
     old: &Plain,
 ) -> Result<&'static str, AllocError> {
-    let reduced = reduce(alloc, f, rows_of(alloc, f, like, old)?)?;
-    let bare = echelon(alloc, f, rows_of(alloc, f, like, old)?)?;
+    let reduced = reduce(alloc, f, rows_of(alloc, f, way, old)?)?;
+    let bare = echelon(alloc, f, rows_of(alloc, f, way, old)?)?;
     let rows = plain_of(alloc, f, &bare.rows)?;
     Ok(judged(&[
         (is_echelon(&rows, &bare.pivots), "echelon without a trace"),
@@ -160,21 +201,27 @@ fn is_accepted<A: Rows<PrimeField>>(
     Ok(check_kernel(f, a, e, &mut s).is_ok())
 }
 
-/// `check_kernel` accepts the evidence, which has as many vectors as the rank asks.
+/// `check_kernel` accepts the evidence, over a view of the columns too, and it has as many vectors as
+/// the rank asks.
 fn judge_kernel<A: RowSpace<PrimeField>>(
     alloc: Global,
     f: &PrimeField,
     p: u8,
-    like: &A,
+    way: &Way<A>,
     old: &Plain,
 ) -> Result<&'static str, AllocError> {
-    let a = rows_of(alloc, f, like, old)?;
+    let a = rows_of(alloc, f, way, old)?;
+    let columns = pushed(alloc, f, &way.like, &old.turned(alloc)?)?;
     let e = kernel(alloc, f, &a)?;
     let rank = rank(alloc, p, old)?;
     Ok(judged(&[
         (e.pivots.len() == rank, "pivots"),
         (e.basis.len() == old.cols.wrapping_sub(rank), "basis"),
         (is_accepted(alloc, f, &a, &e)?, "evidence"),
+        (
+            is_accepted(alloc, f, &Turned::of(&columns), &e)?,
+            "evidence of turned rows",
+        ),
     ]))
 }
 
@@ -211,14 +258,14 @@ fn judge_solve<A: RowSpace<PrimeField>>(
     alloc: Global,
     f: &PrimeField,
     p: u8,
-    like: &A,
+    way: &Way<A>,
     whole: &Plain,
 ) -> Result<&'static str, AllocError> {
     let columns = whole.turned(alloc)?;
     let last = columns.rows.saturating_sub(1);
     let left = columns.part(alloc, 0, last)?;
     let right = columns.part(alloc, last, columns.rows)?;
-    let a = rows_of(alloc, f, like, &left.turned(alloc)?)?;
+    let a = rows_of(alloc, f, way, &left.turned(alloc)?)?;
     let b = right.vector(alloc, 0)?;
     if !b.fits(a.rows()) || !b.is_below(f.size()) {
         return Ok("right side");
@@ -244,14 +291,14 @@ fn judge_extend<A: RowSpace<PrimeField>>(
     alloc: Global,
     f: &PrimeField,
     p: u8,
-    like: &A,
+    way: &Way<A>,
     whole: &Plain,
     count: u32,
 ) -> Result<&'static str, AllocError> {
     let first = whole.part(alloc, 0, count)?;
     let rest = whole.part(alloc, count, whole.rows)?;
-    let span = rows_of(alloc, f, like, &first)?;
-    let vectors = rows_of(alloc, f, like, &rest)?;
+    let span = rows_of(alloc, f, way, &first)?;
+    let vectors = rows_of(alloc, f, way, &rest)?;
     if span.cols() != vectors.cols() {
         return Ok("columns");
     }
@@ -292,12 +339,12 @@ fn judge_columns<A: RowSpace<PrimeField>>(
     alloc: Global,
     f: &PrimeField,
     p: u8,
-    like: &A,
+    way: &Way<A>,
     whole: &Plain,
 ) -> Result<&'static str, AllocError> {
     let columns = whole.turned(alloc)?;
     let split = columns.rows / 2;
-    let a = rows_of(alloc, f, like, whole)?;
+    let a = rows_of(alloc, f, way, whole)?;
     if split > a.cols() {
         return Ok("columns");
     }
@@ -352,10 +399,10 @@ const KERNELS: [KernelRow; 2] = [
 fn judge_kernel_row<A: RowSpace<PrimeField>>(
     alloc: Global,
     f: &PrimeField,
-    like: &A,
+    way: &Way<A>,
     row: &KernelRow,
 ) -> Result<&'static str, AllocError> {
-    let a = rows_of(alloc, f, like, &Plain::of(alloc, 1, 2, row.numbers)?)?;
+    let a = rows_of(alloc, f, way, &Plain::of(alloc, 1, 2, row.numbers)?)?;
     let e = kernel(alloc, f, &a)?;
     Ok(judged(&[
         (e.pivots.as_slice() == row.pivots, "pivots"),
@@ -393,10 +440,10 @@ const SYSTEMS: [SystemRow; 2] = [
 fn judge_system_row<A: RowSpace<PrimeField>>(
     alloc: Global,
     f: &PrimeField,
-    like: &A,
+    way: &Way<A>,
     row: &SystemRow,
 ) -> Result<&'static str, AllocError> {
-    let a = rows_of(alloc, f, like, &Plain::of(alloc, 2, 2, &[1, 2, 2, 1])?)?;
+    let a = rows_of(alloc, f, way, &Plain::of(alloc, 2, 2, &[1, 2, 2, 1])?)?;
     let b = Plain::of(alloc, 1, 2, &row.right)?.vector(alloc, 0)?;
     if !b.fits(a.rows()) || !b.is_below(f.size()) {
         return Ok("right side");
@@ -440,11 +487,11 @@ const EXTENSIONS: [ExtensionRow; 2] = [
 fn judge_extension_row<A: RowSpace<PrimeField>>(
     alloc: Global,
     f: &PrimeField,
-    like: &A,
+    way: &Way<A>,
     row: &ExtensionRow,
 ) -> Result<&'static str, AllocError> {
-    let span = rows_of(alloc, f, like, &Plain::of(alloc, 1, 2, &[1, 1])?)?;
-    let vectors = rows_of(alloc, f, like, &Plain::of(alloc, 2, 2, &row.numbers)?)?;
+    let span = rows_of(alloc, f, way, &Plain::of(alloc, 1, 2, &[1, 1])?)?;
+    let vectors = rows_of(alloc, f, way, &Plain::of(alloc, 2, 2, &row.numbers)?)?;
     if span.cols() != vectors.cols() {
         return Ok("columns");
     }
@@ -464,17 +511,19 @@ fn judge_tables<A: RowSpace<PrimeField>>(
     alloc: Global,
     two: &PrimeField,
     three: &PrimeField,
-    like: &A,
+    like: A,
+    turned: bool,
 ) -> Result<&'static str, AllocError> {
+    let way = Way { like, turned };
     let mut found = RIGHT;
     for row in &KERNELS {
-        found = worse(found, judge_kernel_row(alloc, three, like, row)?);
+        found = worse(found, judge_kernel_row(alloc, three, &way, row)?);
     }
     for row in &SYSTEMS {
-        found = worse(found, judge_system_row(alloc, three, like, row)?);
+        found = worse(found, judge_system_row(alloc, three, &way, row)?);
     }
     for row in &EXTENSIONS {
-        found = worse(found, judge_extension_row(alloc, two, like, row)?);
+        found = worse(found, judge_extension_row(alloc, two, &way, row)?);
     }
     Ok(found)
 }
@@ -484,11 +533,18 @@ fn worked_rows(rt: HostRuntime) -> Result<(), Fail> {
     let alloc = rt.alloc();
     let two = PrimeField::new(2).ok().ok_or("2")?;
     let three = PrimeField::new(3).ok().ok_or("3")?;
-    let found = [
-        judge_tables(alloc, &two, &three, &DenseRows::new(alloc, 0))?,
-        judge_tables(alloc, &two, &three, &SparseRows::new(alloc, 0))?,
-    ];
-    assert_eq!(rt; found, [RIGHT, RIGHT], "dense rows, sparse rows");
+    for turned in [false, true] {
+        let found = [
+            judge_tables(alloc, &two, &three, DenseRows::new(alloc, 0), turned)?,
+            judge_tables(alloc, &two, &three, SparseRows::new(alloc, 0), turned)?,
+            judge_tables(alloc, &two, &three, MixedRows::new(alloc, 0), turned)?,
+        ];
+        assert_eq!(rt;
+            found,
+            [RIGHT; 3],
+            "dense, sparse, mixed rows, turned: {turned}"
+        );
+    }
     Ok(())
 }
 
@@ -547,23 +603,23 @@ fn judge<A: RowSpace<PrimeField>>(
     alloc: Global,
     f: &PrimeField,
     p: u8,
-    like: &A,
+    way: &Way<A>,
     whole: &Plain,
 ) -> Result<&'static str, AllocError> {
-    let mut found = judge_reduce(alloc, f, p, like, whole)?;
-    found = worse(found, judge_echelon(alloc, f, like, whole)?);
-    found = worse(found, judge_kernel(alloc, f, p, like, whole)?);
-    found = worse(found, judge_solve(alloc, f, p, like, whole)?);
+    let mut found = judge_reduce(alloc, f, p, way, whole)?;
+    found = worse(found, judge_echelon(alloc, f, way, whole)?);
+    found = worse(found, judge_kernel(alloc, f, p, way, whole)?);
+    found = worse(found, judge_solve(alloc, f, p, way, whole)?);
     found = worse(
         found,
-        judge_extend(alloc, f, p, like, whole, whole.rows / 2)?,
+        judge_extend(alloc, f, p, way, whole, whole.rows / 2)?,
     );
-    Ok(worse(found, judge_columns(alloc, f, p, like, whole)?))
+    Ok(worse(found, judge_columns(alloc, f, p, way, whole)?))
 }
 
-const PRIMES: [u8; 6] = [2, 3, 5, 7, 11, 13];
+const PRIMES: [u8; 7] = [2, 3, 5, 7, 11, 13, 61];
 
-const SHAPES: [(u32, u32); 8] = [
+const SHAPES: [(u32, u32); 11] = [
     (0, 0),
     (0, 4),
     (4, 0),
@@ -572,7 +628,28 @@ const SHAPES: [(u32, u32); 8] = [
     (3, 8),
     (8, 3),
     (6, 6),
+    (9, 40),
+    (40, 9),
+    (64, 64),
 ];
+
+/// What the judges say of one matrix over rows that are pushed, and over rows that are turned.
+fn judge_rows<A: RowSpace<PrimeField>>(
+    alloc: Global,
+    f: &PrimeField,
+    p: u8,
+    like: A,
+    whole: &Plain,
+) -> Result<&'static str, AllocError> {
+    let mut way = Way {
+        like,
+        turned: false,
+    };
+    let mut found = judge_growth(alloc, f, p, &way.like, whole)?;
+    found = worse(found, judge(alloc, f, p, &way, whole)?);
+    way.turned = true;
+    Ok(worse(found, judge(alloc, f, p, &way, whole)?))
+}
 
 /// How many times of 4 a number is 0, and whether rows repeat.
 const KINDS: [(u8, bool); 3] = [(0, false), (3, false), (0, true)];
@@ -586,11 +663,16 @@ fn random_matrices(rt: HostRuntime) -> Result<(), Fail> {
         for shape in SHAPES {
             for (zeros, repeats) in KINDS {
                 let whole = chance.matrix(alloc, p, shape, zeros, repeats)?;
-                let found = worse(
-                    judge(alloc, &f, p, &DenseRows::new(alloc, 0), &whole)?,
-                    judge(alloc, &f, p, &SparseRows::new(alloc, 0), &whole)?,
+                let found = [
+                    judge_rows(alloc, &f, p, DenseRows::new(alloc, 0), &whole)?,
+                    judge_rows(alloc, &f, p, SparseRows::new(alloc, 0), &whole)?,
+                    judge_rows(alloc, &f, p, MixedRows::new(alloc, 0), &whole)?,
+                ];
+                assert_eq!(rt;
+                    found,
+                    [RIGHT; 3],
+                    "modulo {p}, {shape:?}, {zeros} zeros of 4"
                 );
-                assert_eq!(rt; found, RIGHT, "modulo {p}, {shape:?}, {zeros} zeros of 4");
             }
         }
     }

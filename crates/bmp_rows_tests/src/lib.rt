@@ -11,6 +11,8 @@ mod elimination;
 #[cfg(test)]
 mod fields;
 #[cfg(test)]
+mod growing;
+#[cfg(test)]
 mod lists;
 #[cfg(test)]
 mod matrices;

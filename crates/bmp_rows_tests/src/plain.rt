@@ -1,5 +1,5 @@
 //! Matrices as plain numbers, and what the tests judge by.
-use bmp_linear::{Entry, Vector};
+use bmp_linear::{Entry, Places, Vector};
 use std::alloc::{AllocError, Global};
 
 /// A matrix as plain numbers, row after row. A place outside has 0.
@@ -204,18 +204,24 @@ pub(crate) fn multiplies(p: u8, left: &Plain, columns: &Plain, product: &Plain) 
     true
 }
 
-/// The rank, by elimination downward alone.
-pub(crate) fn rank(alloc: Global, p: u8, a: &Plain) -> Result<u32, AllocError> {
+/// The columns that raise the rank of those before them, by elimination downward alone.
+pub(crate) fn raising_columns(alloc: Global, p: u8, a: &Plain) -> Result<Places, AllocError> {
     let mut a = a.part(alloc, 0, a.rows)?;
-    let mut rank = 0u32;
+    let mut raising = Places::new(alloc);
     for column in 0..a.cols {
+        let rank = raising.len();
         if let Some(row) = a.first_with(rank, column) {
             a.swap_rows(rank, row);
             for i in rank.wrapping_add(1)..a.rows {
                 a.clear(p, i, rank, column);
             }
-            rank = rank.wrapping_add(1);
+            raising.push(column)?;
         }
     }
-    Ok(rank)
+    Ok(raising)
+}
+
+/// The rank, by the columns that raise it.
+pub(crate) fn rank(alloc: Global, p: u8, a: &Plain) -> Result<u32, AllocError> {
+    Ok(raising_columns(alloc, p, a)?.len())
 }
