@@ -14,11 +14,17 @@ use Rattle.bmp_sheaf.specs.Fields.{IsOverField}
 abbrev pub label_coordinates : Graph → ℕ → List ℕ
 label_coordinates G e = slice_index_or (map (λ (d : Edge). coordinates_of d.label) G.edges) e []
 
-leads_at : (edges : List Edge) (e p r : ℕ) → e < length edges → slice_index (map (λ (d : Edge). prime_of d.label) edges) e ≡ p → slice_index (map (λ (d : Edge). rank_of d.label) edges) e ≡ r → IsLeading p r (slice_index (map (λ (d : Edge). leading_of d.label) edges) e) (slice_index_or (map (λ (d : Edge). coordinates_of d.label) edges) e [])
+leads_at : (edges : List Edge) (e p r : ℕ) → e < length edges →
+    slice_index (map (λ (d : Edge). prime_of d.label) edges) e ≡ p →
+    slice_index (map (λ (d : Edge). rank_of d.label) edges) e ≡ r →
+    IsLeading p r (slice_index (map (λ (d : Edge). leading_of d.label) edges) e)
+    (slice_index_or (map (λ (d : Edge). coordinates_of d.label) edges) e [])
 leads_at [] e p r below prime rank = absurd (let none : e < 0 = below in omega arith)
 leads_at (d ∷ edges) zero p r below prime rank =
-    subst (λ p. IsLeading p r (leading_of d.label) (coordinates_of d.label)) prime (subst (λ r. IsLeading (prime_of d.label) r (leading_of d.label) (coordinates_of d.label)) rank d.label.leads)
-leads_at (d ∷ edges) (suc e) p r below prime rank = let rest : suc e < suc (length edges) = below in leads_at edges e p r (omega arith) prime rank
+    subst (λ p. IsLeading p r (leading_of d.label) (coordinates_of d.label)) prime
+        (subst (λ r. IsLeading (prime_of d.label) r (leading_of d.label) (coordinates_of d.label)) rank d.label.leads)
+leads_at (d ∷ edges) (suc e) p r below prime rank = let rest : suc e < suc (length edges) =
+    below in leads_at edges e p r (omega arith) prime rank
 
 module _ (G : Graph) (over : IsOverField G) (e : ℕ) (below : e < edge_count G) where
   pub label_leads : IsLeading G.prime G.rank (leading G e) (label_coordinates G e)
@@ -26,4 +32,5 @@ module _ (G : Graph) (over : IsOverField G) (e : ℕ) (below : e < edge_count G)
 
   pub label_is : IsLabel G.prime G.rank (label G e) (leading G e)
   label_is =
-      label_cases (λ p r. IsLabel p r (slice_index (label_coordinates G e)) (leading G e)) G.prime G.rank (leading G e) (label_coordinates G e) over.two over.inverses label_leads (λ q r is wide one. is)
+      label_cases (λ p r. IsLabel p r (slice_index (label_coordinates G e)) (leading G e)) G.prime G.rank (leading G e)
+          (label_coordinates G e) over.two over.inverses label_leads (λ q r is wide one. is)

@@ -24,27 +24,33 @@ module _ (G : Graph) (over : IsOverField G) (F : SheafData) (d e : ℕ) (inside 
   rows_are = quotient_count G.prime (G.rank - 1) (leading G e) d (label G e) (F.degrees (upper G e))
 
   -- a matrix that is equal to the one of the lower end, and so on
-  pub lower_of_map : SameMatrix a (lower_matrix G F d e) → SameMatrix a (matrix_of_map G.prime (stalk_module G F (lower G e)) (edge_module G F e) (from_lower G F e) d)
+  pub lower_of_map : SameMatrix a (lower_matrix G F d e) →
+      SameMatrix a (matrix_of_map G.prime (stalk_module G F (lower G e)) (edge_module G F e) (from_lower G F e) d)
   lower_of_map same = record {
     rows = same.rows ∙ sym rows_are;
     cols = same.cols ∙ sym (free_count G.rank d (F.degrees (lower G e)));
     entries = λ i j row column.
-        same.entries i j (omega (arith, row, rows_are)) (omega (arith, column, free_count G.rank d (F.degrees (lower G e))))
-        ∙ sym (mod-eq_of_lt (on_edge_below G over F d e inside (lift_of G F e d (unit_at G.rank (F.degrees (lower G e)) d j)) i));
+        same.entries i j (omega (arith, row, rows_are))
+            (omega (arith, column, free_count G.rank d (F.degrees (lower G e))))
+        ∙ sym (mod-eq_of_lt
+            (on_edge_below G over F d e inside (lift_of G F e d (unit_at G.rank (F.degrees (lower G e)) d j)) i));
   }
 
-  pub upper_of_map : SameMatrix a (upper_matrix G F d e) → SameMatrix a (matrix_of_map G.prime (stalk_module G F (upper G e)) (edge_module G F e) (from_upper G F e) d)
+  pub upper_of_map : SameMatrix a (upper_matrix G F d e) →
+      SameMatrix a (matrix_of_map G.prime (stalk_module G F (upper G e)) (edge_module G F e) (from_upper G F e) d)
   upper_of_map same = record {
     rows = same.rows ∙ sym rows_are;
     cols = same.cols ∙ sym (free_count G.rank d (F.degrees (upper G e)));
     entries = λ i j row column.
-        same.entries i j (omega (arith, row, rows_are)) (omega (arith, column, free_count G.rank d (F.degrees (upper G e))))
+        same.entries i j (omega (arith, row, rows_are))
+            (omega (arith, column, free_count G.rank d (F.degrees (upper G e))))
         ∙ sym (mod-eq_of_lt (on_edge_below G over F d e inside (unit_at G.rank (F.degrees (upper G e)) d j) i));
   }
 
 -- the module that is kept for an edge is that of the edge
 pub module_kept_is : {T : Type 0} (s : SheafState T) (e : ℕ) (m : Quotient) → IsEdgeModule s e m
-    → quotient (prime_of (label_of m)) (rank_of (label_of m) - 1) (leading_of (label_of m)) (coordinate_of (label_of m)) (degrees_of (free_of m)) ≡ edge_module s.graph (sheaf_of s) e
+    → quotient (prime_of (label_of m)) (rank_of (label_of m) - 1) (leading_of (label_of m)) (coordinate_of (label_of m))
+        (degrees_of (free_of m)) ≡ edge_module s.graph (sheaf_of s) e
 module_kept_is s e m is =
     let x = label_of m in
     let gs = degrees_of (free_of m) in

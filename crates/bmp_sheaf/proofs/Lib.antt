@@ -1,4 +1,5 @@
 pub mod ProductLemmas
+pub mod SharedLists
 pub mod ExtensionLemmas
 pub mod CoordinateLemmas
 pub mod StalkPlaces

@@ -11,7 +11,8 @@ use Rattle.bmp_poly.proofs.ProductLemmas.{product-comm}
 use Rattle.bmp_poly.proofs.ProductLemmas.{product-one as one-product}
 
 -- a times the constant 1
-pub product-one : (r s : ℕ) (a b : Form) (m : List ℕ) → r ≤ 6 → IsMonomial 6 r s m → ((n : List ℕ) → b n ≡ 1) → product 6 r s a b m ≡ a m
+pub product-one : (r s : ℕ) (a b : Form) (m : List ℕ) → r ≤ 6 → IsMonomial 6 r s m → ((n : List ℕ) → b n ≡ 1) →
+    product 6 r s a b m ≡ a m
 product-one r s a b m wide is one =
     let whole : s ≡ s + 0 = omega arith in
     ap (λ (c : Form). product 6 r s a c m) (fun_ext one)
@@ -22,9 +23,11 @@ product-one r s a b m wide is one =
 pub product-zero : (r s : ℕ) (a b : Form) (m : List ℕ) → ((n : List ℕ) → b n ≡ 0) → product 6 r s a b m ≡ 0
 unfolding product
 product-zero r s a b m none =
-    sum_below_same (λ i. a (exponents 6 r s i) * shift (exponents 6 r s i) b m) (λ i. 0) (count r s) (λ i below. nothing i (cases_Bool (contains m (exponents 6 r s i))))
+    sum_below_same (λ i. a (exponents 6 r s i) * shift (exponents 6 r s i) b m) (λ i. 0) (count r s)
+        (λ i below. nothing i (cases_Bool (contains m (exponents 6 r s i))))
     ∙ sum_below-zeros (count r s)
   where
-    nothing : (i : ℕ) → (contains m (exponents 6 r s i) ≡ true) ⊎ (contains m (exponents 6 r s i) ≡ false) → a (exponents 6 r s i) * shift (exponents 6 r s i) b m ≡ 0
+    nothing : (i : ℕ) → (contains m (exponents 6 r s i) ≡ true) ⊎ (contains m (exponents 6 r s i) ≡ false) →
+        a (exponents 6 r s i) * shift (exponents 6 r s i) b m ≡ 0
     nothing i (inl held) = rw (held, none (less m (exponents 6 r s i))) (omega arith)
     nothing i (inr apart) = rw apart (omega arith)

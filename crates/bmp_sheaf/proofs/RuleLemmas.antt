@@ -33,10 +33,12 @@ module _ (degrees : List ℕ) where
         ]
 
 -- the edge of the lift number i, where n lifts stand for each edge
-module _ (G : Graph) (is : IsGraph G) (x from to : ℕ) (range : IsUpRange G x from to) (i n : ℕ) (inside : i < up_count G x * n) where
+module _ (G : Graph) (is : IsGraph G) (x from to : ℕ) (range : IsUpRange G x from to) (i n : ℕ)
+    (inside : i < up_count G x * n) where
   pub some : 0 < n
   some = elim (cases_eq n 0) [
-    | inl none ↦ let nothing : up_count G x * n ≡ 0 = omega (arith, ap (λ z. up_count G x * z) none) in absurd (omega (arith, inside, nothing))
+    | inl none ↦ let nothing : up_count G x * n ≡ 0 = omega (arith, ap (λ z. up_count G x * z) none) in
+        absurd (omega (arith, inside, nothing))
     | inr more ↦ omega (arith, more)
   ]
 
@@ -58,9 +60,13 @@ module _ (G : Graph) (is : IsGraph G) (x from to : ℕ) (range : IsUpRange G x f
   edge_number_is = ap (λ z. z + i / n) (sym (first_edge_is G x from to range))
 
 -- the stalks above the next vertex are there
-pub there_above : {F : Type 0} (s : SheafState F) (x y : ℕ) → length s.stalks < vertex_count s.graph → x ≡ next_vertex s → x < y → y < vertex_count s.graph → IsThere s y
+pub there_above : {F : Type 0} (s : SheafState F) (x y : ℕ) → length s.stalks < vertex_count s.graph →
+    x ≡ next_vertex s → x < y → y < vertex_count s.graph → IsThere s y
 there_above s x y left next above below = (below, omega (arith, left, next, above))
 
 -- a vector that was read fits where the rule says so
-pub read_fits : (lifts : List (List Entry)) (i room space : ℕ) (v : List Entry) → i < length lifts → v ≡ slice_index_or lifts i v → room ≡ space → FitsBelow (slice_index_or lifts i []) space → FitsBelow v room
-read_fits lifts i room space v inside read same fits = subst (λ n. FitsBelow v n) (sym same) (subst (λ w. FitsBelow w space) (sym (get_or_read lifts i v inside read [])) fits)
+pub read_fits : (lifts : List (List Entry)) (i room space : ℕ) (v : List Entry) → i < length lifts →
+    v ≡ slice_index_or lifts i v → room ≡ space → FitsBelow (slice_index_or lifts i []) space → FitsBelow v room
+read_fits lifts i room space v inside read same fits =
+    subst (λ n. FitsBelow v n) (sym same)
+    (subst (λ w. FitsBelow w space) (sym (get_or_read lifts i v inside read [])) fits)

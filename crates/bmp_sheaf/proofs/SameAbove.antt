@@ -1,5 +1,5 @@
--- Two sheaves in memory, over one graph and with one bound, that have the same stalks at the upper ends of the edges going up from a vertex:
--- what is kept of the vertex in the one is kept in the other.
+-- Two sheaves in memory, over one graph and with one bound, that have the same stalks at the upper ends of the edges
+-- going up from a vertex: what is kept of the vertex in the one is kept in the other.
 use Rattle.std.proofs.Common.{◌≡◌, ℕ, ◌*◌, ◌/◌, ◌%◌, ◌+◌, ◌<◌, List, [], length, get_or, sym, ap, subst, ◌∙◌, arith}
 use Rattle.std.specs.Prelude.{slice_index}
 use Rattle.bmp_math.specs.Matrices.{SameMatrix}
@@ -37,12 +37,14 @@ module _ {F : Type 0} (s : SheafState F) (f : F) (stalks : List Stalk) (is : IsG
         (above e (is_edge s.graph is y first (first + up_count s.graph y) range i (length degrees) inside)
         (starts_at s.graph is y first (first + up_count s.graph y) range i (length degrees) inside))
 
-    pub stalk_same : (degrees : List ℕ) (lifts : List (List Entry)) → IsStalk s y degrees lifts → IsStalk other y degrees lifts
+    pub stalk_same : (degrees : List ℕ) (lifts : List (List Entry)) → IsStalk s y degrees lifts →
+        IsStalk other y degrees lifts
     stalk_same degrees lifts h = record {
       rising = h.rising;
       bound = h.bound;
       counted = h.counted;
-      fit = λ i below. subst (FitsBelow (get_or lifts i [])) (sym (room_same degrees i (omega (arith, below, h.counted)))) (h.fit i below);
+      fit = λ i below. subst (FitsBelow (get_or lifts i []))
+          (sym (room_same degrees i (omega (arith, below, h.counted)))) (h.fit i below);
     }
 
     pub uppers_same : (us : List UpperTable) → AreUppers s y us → AreUppers other y us
@@ -66,11 +68,15 @@ module _ {F : Type 0} (s : SheafState F) (f : F) (stalks : List Stalk) (is : IsG
 
     module _ (own : stalk_of other y ≡ stalk_of s y) where
       -- on the edges from the vertex the two sheaves agree
-      agree : (e : ℕ) → e < edge_count s.graph → lower s.graph e ≡ y → AgreeOnEdge s.graph (sheaf_of s) (sheaf_of other) e
+      agree : (e : ℕ) → e < edge_count s.graph → lower s.graph e ≡ y →
+          AgreeOnEdge s.graph (sheaf_of s) (sheaf_of other) e
       agree e below starts =
-          let here : stalk_of other (lower s.graph e) ≡ stalk_of s (lower s.graph e) = subst (λ z. stalk_of other z ≡ stalk_of s z) (sym starts) own in
-          written_agree s.graph (λ z. (stalk_of s z).degrees) (λ z. (stalk_of other z).degrees) (λ z. (stalk_of s z).lifts) (λ z. (stalk_of other z).lifts) e
-          (sym (ap (λ (t : Stalk). t.degrees) here)) (sym (ap (λ (t : Stalk). t.degrees) (above e below starts))) (sym (ap (λ (t : Stalk). t.lifts) here))
+          let here : stalk_of other (lower s.graph e) ≡ stalk_of s (lower s.graph e) =
+              subst (λ z. stalk_of other z ≡ stalk_of s z) (sym starts) own in
+          written_agree s.graph (λ z. (stalk_of s z).degrees) (λ z. (stalk_of other z).degrees)
+              (λ z. (stalk_of s z).lifts) (λ z. (stalk_of other z).lifts) e
+          (sym (ap (λ (t : Stalk). t.degrees) here)) (sym (ap (λ (t : Stalk). t.degrees) (above e below starts)))
+              (sym (ap (λ (t : Stalk). t.lifts) here))
 
       pub table_same : (u : StalkTable) → IsStalkTable s y u → IsStalkTable other y u
       table_same u h = record {
@@ -83,7 +89,9 @@ module _ {F : Type 0} (s : SheafState F) (f : F) (stalks : List Stalk) (is : IsG
         lower_maps = record {
           counted = h.lower_maps.counted;
           each = λ e d r is_edge starts small.
-              subst (SameMatrix (matrix_of_entries (get_or u.lower _ r))) (lower_matrix_agrees s.graph (sheaf_of s) (sheaf_of other) d e (agree e is_edge starts)) (h.lower_maps.each e d r is_edge starts small);
+              subst (SameMatrix (matrix_of_entries (get_or u.lower _ r)))
+                  (lower_matrix_agrees s.graph (sheaf_of s) (sheaf_of other) d e (agree e is_edge starts))
+                  (h.lower_maps.each e d r is_edge starts small);
         };
         uppers = uppers_same u.uppers h.uppers;
       }

@@ -25,13 +25,17 @@ use Rattle.bmp_sheaf.specs.UpperTables.{UpperTable, upper_map_of, IsUpperTable, 
 use Rattle.bmp_sheaf.proofs.UpEdges.{first_edge_is, up_count_is, up_range_of}
 
 -- degrees within a bound that is at most 6
-pub low_degrees : (xs : List ℕ) (most : ℕ) → most ≤ 6 → ((i : ℕ) → i < length xs → get_or xs i 0 ≤ most) → All (λ a. a ≤ 6) xs
-low_degrees xs most small bound k d below = let here : get_or xs k 0 ≤ most = bound k below in omega (arith, get_or_default_zero xs k d below, here)
+pub low_degrees : (xs : List ℕ) (most : ℕ) → most ≤ 6 → ((i : ℕ) → i < length xs → get_or xs i 0 ≤ most) →
+    All (λ a. a ≤ 6) xs
+low_degrees xs most small bound k d below = let here : get_or xs k 0 ≤ most = bound k below in
+    omega (arith, get_or_default_zero xs k d below, here)
 
 module _ {F : Type 0} (s : SheafState F) where
   -- a table by the label of the edge's table of normal forms, and of the stalk at the upper end
-  pub upper_here : (e : ℕ) (t : NormalTable) (u : UpperTable) → IsTableOf s.graph s.degree e t → label_of u.quotient ≡ table_label_of t
-      → degrees_of (free_of u.quotient) ≡ (stalk_of s (upper s.graph e)).degrees → IsUpperTable s.degree u → IsUpperOf s e u
+  pub upper_here : (e : ℕ) (t : NormalTable) (u : UpperTable) → IsTableOf s.graph s.degree e t →
+      label_of u.quotient ≡ table_label_of t
+      → degrees_of (free_of u.quotient) ≡ (stalk_of s (upper s.graph e)).degrees → IsUpperTable s.degree u →
+          IsUpperOf s e u
   upper_here e t u table same above rows = record {
     edge = record {
       rank = u.quotient.agree ∙ ap rank_of same ∙ table.rank;
@@ -45,7 +49,8 @@ module _ {F : Type 0} (s : SheafState F) where
   }
 
   -- the label of an edge's module is that of the edge's table of normal forms
-  pub edge_label : (e : ℕ) (t : NormalTable) (m : Quotient) → IsTableOf s.graph s.degree e t → IsEdgeModule s e m → label_of m ≡ table_label_of t
+  pub edge_label : (e : ℕ) (t : NormalTable) (m : Quotient) → IsTableOf s.graph s.degree e t → IsEdgeModule s e m →
+      label_of m ≡ table_label_of t
   edge_label e t m table is =
       let x = label_of m in
       let y = table_label_of t in
@@ -61,12 +66,14 @@ module _ {F : Type 0} (s : SheafState F) where
   pub uppers_none : (from : ℕ) → UppersBefore from from []
   uppers_none from = record { counted = omega arith; each = λ f u past below. absurd (omega (arith, past, below)) }
 
-  pub uppers_more : (from e : ℕ) (us : List UpperTable) (u : UpperTable) → from ≤ e → UppersBefore from e us → IsUpperOf s e u → UppersBefore from (e + 1) (us ++ u ∷ [])
+  pub uppers_more : (from e : ℕ) (us : List UpperTable) (u : UpperTable) → from ≤ e → UppersBefore from e us →
+      IsUpperOf s e u → UppersBefore from (e + 1) (us ++ u ∷ [])
   uppers_more from e us u past h new = record {
     counted = omega (arith, length_more us u, h.counted, past);
     each = λ f v from_on below. elim (cases_eq f e) [
       | inl last ↦
-          let at : get_or (us ++ u ∷ []) (f - from) v ≡ u = get_or_push us u v (f - from) (omega (arith, h.counted, last)) in
+          let at : get_or (us ++ u ∷ []) (f - from) v ≡ u =
+              get_or_push us u v (f - from) (omega (arith, h.counted, last)) in
           subst (IsUpperOf s f) (sym at) (subst (λ z. IsUpperOf s z u) (sym last) new)
       | inr other ↦
           let earlier : f < e = omega (arith, below, other) in
@@ -76,16 +83,19 @@ module _ {F : Type 0} (s : SheafState F) where
     ];
   }
 
-  pub uppers_all : (x from to e : ℕ) (us : List UpperTable) → IsUpRange s.graph x from to → e ≡ to → UppersBefore from e us → AreUppers s x us
+  pub uppers_all : (x from to e : ℕ) (us : List UpperTable) → IsUpRange s.graph x from to → e ≡ to →
+      UppersBefore from e us → AreUppers s x us
   uppers_all x from to e us range last h = record {
     counted = h.counted ∙ ap (λ z. z - from) last ∙ sym (up_count_is s.graph x from to range);
     each = λ f u below starts.
         let has = IsUpRange-has s.graph x from to f range below starts in
-        subst (λ z. IsUpperOf s f (get_or us (f - z) u)) (sym (first_edge_is s.graph x from to range)) (h.each f u has.0 (omega (arith, has.1, last)));
+        subst (λ z. IsUpperOf s f (get_or us (f - z) u)) (sym (first_edge_is s.graph x from to range))
+            (h.each f u has.0 (omega (arith, has.1, last)));
   }
 
   -- the matrix of the map to an edge's module is the edge's
-  pub upper_map_is : (e d : ℕ) (m : Quotient) → IsEdgeModule s e m → upper_map_of m d ≡ upper_matrix s.graph (sheaf_of s) d e
+  pub upper_map_is : (e d : ℕ) (m : Quotient) → IsEdgeModule s e m →
+      upper_map_of m d ≡ upper_matrix s.graph (sheaf_of s) d e
   upper_map_is e d m is =
       let x = label_of m in
       let n = free_rank_of (free_of m) in
@@ -98,7 +108,8 @@ module _ {F : Type 0} (s : SheafState F) where
       ∙ ap (M s.graph.prime s.graph.rank (label s.graph e) (leading s.graph e)) is.degrees
 
 -- the tables of the edges going up from a vertex are tables of maps
-pub uppers_kept : {F : Type 0} {s : SheafState F} {x : ℕ} {us : List UpperTable} → IsGraph s.graph → AreUppers s x us → AreUpperTables s.degree us
+pub uppers_kept : {F : Type 0} {s : SheafState F} {x : ℕ} {us : List UpperTable} → IsGraph s.graph → AreUppers s x us →
+    AreUpperTables s.degree us
 uppers_kept {s = s} {x = x} {us = us} is h = λ k u below.
     let first = first_edge s.graph x in
     let range = up_range_of s.graph is x in

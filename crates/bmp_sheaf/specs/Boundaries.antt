@@ -1,8 +1,10 @@
 -- Boundaries that are written down, in the first row of a scratch. In the order to read:
---   IsRunWritten f start n old new        from the place `start` on stand the numbers f 0, .., f (n - 1). What stands before them, the length and
---                                         the second row are as they were
---   lift_numbers G F d e u                the coordinates on the edge e of the lift of the element with the coordinates u, of degree d
---   IsBoundaryWritten G F x d u old new   the row begins with the boundary coordinates, at the vertex x, of that element
+--   IsRunWritten f start n old new        from the place `start` on stand the numbers f 0, .., f (n - 1). What stands
+--                                         before them, the length and the second row are as they were
+--   lift_numbers G F d e u                the coordinates on the edge e of the lift of the element with the coordinates
+--                                         u, of degree d
+--   IsBoundaryWritten G F x d u old new   the row begins with the boundary coordinates, at the vertex x, of that
+--                                         element
 use Rattle.std.specs.Prelude.{◌≡◌, ℕ, ◌+◌, ◌<◌, length, slice_index}
 use Rattle.bmp_linear.specs.RowTables.{Work}
 use Rattle.bmp_graph.specs.Graph.{Graph, lower}
@@ -26,5 +28,6 @@ module _ (G : Graph) (F : SheafData) where
   pub record IsBoundaryWritten (x d : ℕ) (u : ℕ → ℕ) (old new : Work) : Type 0 where
     pub numbers :
         (k : ℕ) → k < boundary_count G F x d →
-        slice_index new.first k ≡ boundary_number G F x d (boundary_of_element G F d (element_of G.rank (F.degrees x) d u)) k
+        slice_index new.first k ≡ boundary_number G F x d
+            (boundary_of_element G F d (element_of G.rank (F.degrees x) d u)) k
     pub rest : KeepsRest old new

@@ -1,8 +1,10 @@
--- The two maps to the edge module of a linear form c in r variables, whose leading variable is the l-th, modulo p: by the degrees of the
--- generators at the two ends, and by the vectors of the lifts. In the order to read:
+-- The two maps to the edge module of a linear form c in r variables, whose leading variable is the l-th, modulo p: by
+-- the degrees of the generators at the two ends, and by the vectors of the lifts. In the order to read:
 --   LiftsFit r from into lifts             each vector has only places of an element above, of its generator's degree
---   lift_by r from into lifts g            the lift of the generator g, where `from` is the degrees below and `into` those above
---   lower_map p r c l from into lifts d    the matrix of the lift: a row for each coordinate on the edge, a column for each of the lower stalk
+--   lift_by r from into lifts g            the lift of the generator g, where `from` is the degrees below and `into`
+--                                          those above
+--   lower_map p r c l from into lifts d    the matrix of the lift: a row for each coordinate on the edge, a column for
+--                                          each of the lower stalk
 --   upper_map p r c l into d               the matrix of the upper stalk's map to the edge module
 use Rattle.std.specs.Prelude.{ℕ, ◌-◌, ◌<◌, List, [], length, slice_index, slice_index_or}
 use Rattle.bmp_math.specs.Matrices.{Matrix}
@@ -14,7 +16,8 @@ use Rattle.bmp_sheaf.specs.Coordinates.{stalk_count, element_of}
 use Rattle.bmp_sheaf.specs.Numbers.{edge_number, unit_at}
 
 abbrev pub LiftsFit : ℕ → List ℕ → List ℕ → List (List Entry) → Type 0
-LiftsFit r from into lifts = (g : ℕ) → g < length lifts → FitsBelow (slice_index_or lifts g []) (stalk_count r into (slice_index from g))
+LiftsFit r from into lifts =
+    (g : ℕ) → g < length lifts → FitsBelow (slice_index_or lifts g []) (stalk_count r into (slice_index from g))
 
 abbrev pub lift_by : ℕ → List ℕ → List ℕ → List (List Entry) → ℕ → Element
 lift_by r from into lifts g = element_of r into (slice_index from g) (number_at (slice_index_or lifts g []))

@@ -1,5 +1,6 @@
 -- Laws between the elements here and graded modules by coordinates, as statements.
---   StalksAreFreeModules         a stalk's coordinates are those of the free module: as many, and with the same polynomials
+--   StalksAreFreeModules         a stalk's coordinates are those of the free module: as many, and with the same
+--                                polynomials
 --   EdgeModulesAreQuotients      an edge has as many coordinates as the free module modulo the label
 --   CongruentIsSameModulo        congruent by a label is equal modulo it
 --   EdgeNumbersAreProjections    the numbers on an edge are the coordinates of the projection, modulo the prime
@@ -27,12 +28,14 @@ StalksAreFreeModules =
     × ((g : ℕ) (u : ℕ → ℕ) → g < length degrees → component r degrees g d u ≡ element_of r degrees d u g)
 
 abbrev pub EdgeModulesAreQuotients : Type 0
-EdgeModulesAreQuotients = (p r l d : ℕ) (c : ℕ → ℕ) (degrees : List ℕ) → (quotient p (r - 1) l c degrees).dim d ≡ stalk_count (r - 1) degrees d
+EdgeModulesAreQuotients = (p r l d : ℕ) (c : ℕ → ℕ) (degrees : List ℕ) →
+    (quotient p (r - 1) l c degrees).dim d ≡ stalk_count (r - 1) degrees d
 
 abbrev pub CongruentIsSameModulo : Type 0
 CongruentIsSameModulo =
     (p r d : ℕ) (c : ℕ → ℕ) (degrees : List ℕ) (u v : ℕ → ℕ) →
-    IsSameModulo p r c degrees d u v ↔ CongruentElement p r degrees c d (element_of r degrees d u) (element_of r degrees d v)
+    IsSameModulo p r c degrees d u v ↔
+        CongruentElement p r degrees c d (element_of r degrees d u) (element_of r degrees d v)
 
 abbrev pub EdgeNumbersAreProjections : Type 0
 EdgeNumbersAreProjections =
@@ -47,8 +50,11 @@ abbrev pub EdgeMapsAreModuleMaps : Type 0
 EdgeMapsAreModuleMaps = (G : Graph) (F : SheafData) (e : ℕ) → IsOverField G → e < edge_count G → AreModuleMaps G F e
 
 pub record AreMatricesOfMaps (G : Graph) (F : SheafData) (d e : ℕ) : Type 0 where
-  pub lower_one : SameMatrix (lower_matrix G F d e) (matrix_of_map G.prime (stalk_module G F (lower G e)) (edge_module G F e) (from_lower G F e) d)
-  pub upper_one : SameMatrix (upper_matrix G F d e) (matrix_of_map G.prime (stalk_module G F (upper G e)) (edge_module G F e) (from_upper G F e) d)
+  pub lower_one : SameMatrix (lower_matrix G F d e)
+      (matrix_of_map G.prime (stalk_module G F (lower G e)) (edge_module G F e) (from_lower G F e) d)
+  pub upper_one : SameMatrix (upper_matrix G F d e)
+      (matrix_of_map G.prime (stalk_module G F (upper G e)) (edge_module G F e) (from_upper G F e) d)
 
 abbrev pub EdgeMatricesAreOfModuleMaps : Type 0
-EdgeMatricesAreOfModuleMaps = (G : Graph) (F : SheafData) (d e : ℕ) → IsOverField G → e < edge_count G → AreMatricesOfMaps G F d e
+EdgeMatricesAreOfModuleMaps = (G : Graph) (F : SheafData) (d e : ℕ) → IsOverField G → e < edge_count G →
+    AreMatricesOfMaps G F d e

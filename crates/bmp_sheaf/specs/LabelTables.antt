@@ -31,4 +31,5 @@ pub record HasTables (G : Graph) (D n : ℕ) (tables : List NormalTable) (number
   pub each : (e : ℕ) → e < n → HasTable G D tables (slice_index numbers e) e
 
 abbrev pub AreByDifferentLabels : List NormalTable → Type 0
-AreByDifferentLabels tables = (i j : ℕ) (t : NormalTable) → i < j → j < length tables → ¬ IsBy (slice_index_or tables i t) (label_of (slice_index_or tables j t))
+AreByDifferentLabels tables = (i j : ℕ) (t : NormalTable) → i < j → j < length tables →
+    ¬ IsBy (slice_index_or tables i t) (label_of (slice_index_or tables j t))

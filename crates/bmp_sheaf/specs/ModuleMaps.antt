@@ -1,4 +1,5 @@
--- The stalks and edges of a sheaf as graded modules by coordinates, and its maps as maps of these. In the order to read:
+-- The stalks and edges of a sheaf as graded modules by coordinates, and its maps as maps of these. In the order to
+-- read:
 --   stalk_module G F x      the stalk at the vertex x: a free module
 --   edge_module G F e       the module of the edge e: that of its upper end, modulo the label
 --   from_lower G F e        the map from the stalk at the lower end of e: the coordinates on e of the lift

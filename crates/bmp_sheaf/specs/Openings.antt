@@ -1,6 +1,6 @@
 -- Stalks that are added for all vertices of one length.
---   IsOpened old new k n     new is old with a stalk more, whatever it is, at each vertex of length k that old lacks, if
---                            these come next; there are n
+--   IsOpened old new k n     new is old with a stalk more, whatever it is, at each vertex of length k that old lacks,
+--                            if these come next; there are n
 use Rattle.std.specs.Prelude.{◌≡◌, ℕ, ◌+◌, ◌<◌, ◌≤◌, take, length}
 use Rattle.bmp_graph.specs.Graph.{vertex_count, length_at}
 use Rattle.bmp_sheaf.specs.States.{SheafState, next_vertex}

@@ -1,7 +1,8 @@
 -- Sheaves on a moment graph (Braden-MacPherson 2001), by their generators and lifts. In the order to read:
 --   SheafData                  the degrees of each vertex's generators, and the lift of each generator on each edge
 --   lift_of G F e d u          the lift of the element u, of degree d, on the edge e going up from its vertex
---   EqualOnEdge G F e d a b    two elements at the upper end of e are equal on e: the label divides each component of a less b
+--   EqualOnEdge G F e d a b    two elements at the upper end of e are equal on e: the label divides each component of a
+--                              less b
 --   Tuple, Boundary            an element for each vertex; an element at the upper end of each edge
 --   boundary_of_element G F d u    the lifts of u, on each edge
 --   boundary_of_tuple G s          the values of s at the upper ends of the edges
@@ -11,7 +12,8 @@ use Rattle.std.specs.Prelude.{◌≡◌, ℕ, ◌<◌, List}
 use Rattle.bmp_graph.specs.Graph.{Graph, edge_count, lower, upper, label}
 use Rattle.bmp_sheaf.specs.Elements.{Element, CongruentElement, extension}
 
--- the stalk at x is the free module with generators of the degrees; lift e g is an element of the upper end's stalk, of the degree of the generator g of the lower end
+-- the stalk at x is the free module with generators of the degrees; lift e g is an element of the upper end's stalk, of
+-- the degree of the generator g of the lower end
 pub record SheafData : Type 0 where
   pub degrees : ℕ → List ℕ
   pub lift : ℕ → ℕ → Element

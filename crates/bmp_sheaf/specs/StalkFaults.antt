@@ -1,6 +1,7 @@
 -- The rules of a stalk that is added at the vertex x, in the order in which they are tried. In the order to read:
 --   NeverFalls degrees i             degree i is no less than the one before it
---   lift_room s x degrees i          how many coordinates the lift number i may have: those of its generator's degree, at its edge's upper end
+--   lift_room s x degrees i          how many coordinates the lift number i may have: those of its generator's degree,
+--                                    at its edge's upper end
 --   LiftFits s x degrees lifts i     the lift number i fits
 --   IsStalk s x degrees lifts        all rules hold
 --   IsFirst P n i                    i is the first number below n without P
@@ -24,7 +25,8 @@ WithinBound s degrees i = slice_index degrees i ≤ s.degree
 -- lifts stand by edge and then by generator
 abbrev pub lift_room : {F : Type 0} → SheafState F → ℕ → List ℕ → ℕ → ℕ
 lift_room s x degrees i =
-    stalk_count s.graph.rank (stalk_of s (upper s.graph (first_edge s.graph x + i / length degrees))).degrees (slice_index degrees (i % length degrees))
+    stalk_count s.graph.rank (stalk_of s (upper s.graph (first_edge s.graph x + i / length degrees))).degrees
+        (slice_index degrees (i % length degrees))
 
 abbrev pub LiftFits : {F : Type 0} → SheafState F → ℕ → List ℕ → List (List Entry) → ℕ → Type 0
 LiftFits s x degrees lifts i = FitsBelow (slice_index_or lifts i []) (lift_room s x degrees i)

@@ -1,14 +1,16 @@
 -- What is kept of a sheaf in memory, and what holds of it. In the order to read:
---   StalkTable               the stalk at a vertex with, by edge going up from it and then by degree, the rows of the map to the edge's
---                            module, and by edge the table of the module and of the map from the upper end
+--   StalkTable               the stalk at a vertex with, by edge going up from it and then by degree, the rows of the
+--                            map to the edge's module, and by edge the table of the module and of the map from the
+--                            upper end
 --   map_place G D e d        where the rows of the edge e in degree d stand, degrees being at most D
---   AreMapsUp s x M ts       the rows of the matrices M d e, for the edges e going up from x, by edge and then by degree d
+--   AreMapsUp s x M ts       the rows of the matrices M d e, for the edges e going up from x, by edge and then by
+--                            degree d
 --   IsStalkTable s x t       the table is that of the stalk at x
 --   AreTables s ts           each of the tables is that of its vertex, the greatest first
 --   stalk_in t               the stalk in a table
 --   state_of G f D ts        the sheaf with the stalks in these tables
---   IsKept p s labels us ts  s is kept in these tables ts and in those of normal forms by its labels, over a field of p elements; us are
---                            further tables of maps from upper ends
+--   IsKept p s labels us ts  s is kept in these tables ts and in those of normal forms by its labels, over a field of p
+--                            elements; us are further tables of maps from upper ends
 use Rattle.std.specs.Prelude.{◌≡◌, ℕ, ◌+◌, ◌-◌, ◌*◌, ◌^◌, ◌<◌, ◌≤◌, List, [], length, map, slice_index_or}
 use Rattle.std.specs.List.{All}
 use Rattle.bmp_math.specs.Matrices.{Matrix, SameMatrix}
@@ -63,8 +65,10 @@ stalk_in t = record { degrees = t.degrees; lifts = t.lifts }
 abbrev pub state_of : {F : Type 0} → Graph → F → ℕ → List StalkTable → SheafState F
 state_of G f D ts = record { graph = G; field = f; degree = D; stalks = map stalk_in ts }
 
--- what holds of a sheaf in memory over a field of p elements, with tables of normal forms, of maps from upper ends and of stalks
-pub record IsKept {F : Type 0} (p : ℕ) (s : SheafState F) (labels : LabelTables) (us : List UpperTable) (ts : List StalkTable) : Type 0 where
+-- what holds of a sheaf in memory over a field of p elements, with tables of normal forms, of maps from upper ends and
+-- of stalks
+pub record IsKept {F : Type 0} (p : ℕ) (s : SheafState F) (labels : LabelTables) (us : List UpperTable)
+    (ts : List StalkTable) : Type 0 where
   pub prime : p ≡ s.graph.prime
   pub state : IsState s
   pub normal_forms : HasTables s.graph s.degree (edge_count s.graph) labels.tables.items labels.numbers.items

@@ -1,14 +1,16 @@
 -- What a sheaf in memory is seen as. In the order to read:
 --   Stalk             the degrees of a stalk's generators, and their lifts: by edge going up, and then by generator
---   SheafState F      a graph, the field of the numbers, which is of type F, a degree bound, and the stalks that are there, that of the
---                     greatest vertex first
---   IsState s         what holds of each: the graph is one over a field, of rank 1 to 6 and at most 4,096 vertices, and the bound is at most 6
+--   SheafState F      a graph, the field of the numbers, which is of type F, a degree bound, and the stalks that are
+--                     there, that of the greatest vertex first
+--   IsState s         what holds of each: the graph is one over a field, of rank 1 to 6 and at most 4,096 vertices, and
+--                     the bound is at most 6
 --   stalk_of s x      the stalk at x
 --   IsThere s x       the stalk at x is there
 --   next_vertex s     the greatest vertex whose stalk isn't there, if there is one
 --   with_stalk s t    s with a further stalk, that of the next vertex
 --   sheaf_of s        the sheaf with these stalks
---   IsRoom s d n      n is at least the number of stalk coordinates and of boundary coordinates, in degree d, of each vertex whose stalk is there
+--   IsRoom s d n      n is at least the number of stalk coordinates and of boundary coordinates, in degree d, of each
+--                     vertex whose stalk is there
 use Rattle.std.specs.Prelude.{ℕ, ◌+◌, ◌-◌, ◌<◌, ◌≤◌, List, [], ◌∷◌, ◌++◌, length, slice_index_or}
 use Rattle.bmp_linear.specs.declared.vector.Entry.{Entry}
 use Rattle.bmp_graph.specs.Graph.{Graph, vertex_count}

@@ -1,6 +1,8 @@
 -- What is kept of the maps from upper stalks to edge modules. In the order to read:
---   UpperTable             the module of an edge and, by degree, the rows of the map to it from the stalk at the edge's upper end
---   upper_map_of m d       the matrix, in degree d, of the map to the module m from the free module that it is a quotient of
+--   UpperTable             the module of an edge and, by degree, the rows of the map to it from the stalk at the edge's
+--                          upper end
+--   upper_map_of m d       the matrix, in degree d, of the map to the module m from the free module that it is a
+--                          quotient of
 --   IsUpperTable D u       the rows in each degree up to D are those of the matrix
 --   AreUpperTables D us    so it is in each of the tables
 --   IsEdgeModule s e m     m is the module on the edge e
@@ -25,11 +27,13 @@ pub record UpperTable : Type 0 where
   pub rows : List EntryTable
 
 abbrev pub upper_map_of : Quotient → ℕ → Matrix
-upper_map_of m = upper_map (prime_of (label_of m)) (free_rank_of (free_of m)) (coordinate_of (label_of m)) (leading_of (label_of m)) (degrees_of (free_of m))
+upper_map_of m = upper_map (prime_of (label_of m)) (free_rank_of (free_of m)) (coordinate_of (label_of m))
+    (leading_of (label_of m)) (degrees_of (free_of m))
 
 pub record IsUpperTable (D : ℕ) (u : UpperTable) : Type 0 where
   pub counted : length u.rows ≡ D + 1
-  pub each : (d : ℕ) (t : EntryTable) → d < D + 1 → SameMatrix (matrix_of_entries (slice_index_or u.rows d t)) (upper_map_of u.quotient d)
+  pub each : (d : ℕ) (t : EntryTable) → d < D + 1 →
+      SameMatrix (matrix_of_entries (slice_index_or u.rows d t)) (upper_map_of u.quotient d)
 
 abbrev pub AreUpperTables : ℕ → List UpperTable → Type 0
 AreUpperTables D us = All (IsUpperTable D) us

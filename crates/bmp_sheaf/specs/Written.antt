@@ -1,9 +1,10 @@
--- Sheaves that are written down by vectors of coordinates: for each vertex a list of degrees and a list of lifts, by edge going up
--- from it and then by generator. In the order to read:
+-- Sheaves that are written down by vectors of coordinates: for each vertex a list of degrees and a list of lifts, by
+-- edge going up from it and then by generator. In the order to read:
 --   first_edge G x                the number of the first edge going up from x, where there is one
 --   up_count G x                  how many edges go up from x
 --   IsUpPlace G x e k             the edge e is number k, from 0, of those that go up from x
---   lift_place G degrees e g      where the lift of the generator g on the edge e stands among the lifts of the lower end
+--   lift_place G degrees e g      where the lift of the generator g on the edge e stands among the lifts of the lower
+--                                 end
 --   written_sheaf G degrees lifts the sheaf
 use Rattle.std.specs.Prelude.{◌≡◌, ℕ, ◌+◌, ◌-◌, ◌*◌, ◌<◌, ◌≤◌, ◌==◌, nat_lt, if◌then◌else◌, List, [], length, slice_index, slice_index_or}
 use Rattle.bmp_math.specs.Sums.{sum_below}

@@ -55,8 +55,10 @@ impl<'a, F: Field> BoundaryRows<'a, F> {
         requires { k < self.now.rows }
         ensures edge { result.0 < edge_count self.now.sheaf.now.graph }
         ensures starts { lower self.now.sheaf.now.graph result.0 ≡ self.now.vertex }
-        ensures inside { result.1 < edge_module_count self.now.sheaf.now.graph (sheaf_of self.now.sheaf.now) self.now.degree result.0 }
-        ensures place { k ≡ boundary_start self.now.sheaf.now.graph (sheaf_of self.now.sheaf.now) self.now.vertex self.now.degree result.0 + result.1 }
+        ensures inside { result.1 < edge_module_count self.now.sheaf.now.graph (sheaf_of self.now.sheaf.now)
+            self.now.degree result.0 }
+        ensures place { k ≡ boundary_start self.now.sheaf.now.graph (sheaf_of self.now.sheaf.now) self.now.vertex
+            self.now.degree result.0 + result.1 }
     {
         let (first, past) = self.sheaf.graph().up(self.vertex);
         let mut place = k;
@@ -115,7 +117,8 @@ impl<F: Field> Sheaf<F> {
         requires edge { e < edge_count self.now.graph }
         requires there { IsThere self.now (lower self.now.graph e) }
         requires degree { d ≤ self.now.degree }
-        requires fits { FitsBelow u.now (stalk_count self.now.graph.rank (stalk_of self.now (lower self.now.graph e)).degrees d) }
+        requires fits { FitsBelow u.now
+            (stalk_count self.now.graph.rank (stalk_of self.now (lower self.now.graph e)).degrees d) }
         requires values { ValuesBelow u.now self.now.graph.prime }
         requires small { start ≤ 4294967295 * e }
         requires room { start + edge_module_count self.now.graph (sheaf_of self.now) d e ≤ length s.old.first }
@@ -155,8 +158,8 @@ impl<F: Field> Sheaf<F> {
         u64::from(rows.rows())
     }
 
-    /// Writes the boundary coordinates, at the vertex `x`, of the element of degree `d` with the coordinates `u`: they are then
-    /// the first numbers of the first row of the scratch. Takes no memory.
+    /// Writes the boundary coordinates, at the vertex `x`, of the element of degree `d` with the coordinates `u`: they
+    /// are then the first numbers of the first row of the scratch. Takes no memory.
     pub fn boundary(&self, x: u32, d: u32, u: &Vector, s: &mut Scratch)
         requires vertex { IsThere self.now x }
         requires degree { d ≤ self.now.degree }

@@ -76,8 +76,8 @@ fn sparse_rows<F: Field>(
     Ok(sparse)
 }
 
-/// The matrix of a linear map in degree `d`: a row for each coordinate of the module that it leads to, a column for each of the
-/// free module. Wants memory also where there are 2^32 or more coordinates.
+/// The matrix of a linear map in degree `d`: a row for each coordinate of the module that it leads to, a column for
+/// each of the free module. Wants memory also where there are 2^32 or more coordinates.
 fn rows_of<F: Field, N: GradedModule<F>>(
     alloc: Global,
     f: &F,
@@ -111,8 +111,10 @@ pub(crate) fn generators<F: Field>(
     requires prime { F.size f.now ≡ prime_of (quotient_label_of quotient.now) }
     requires degrees { All (λ a. a ≤ 6) (degrees_of (free_of quotient.now)) }
     ensures { let x = quotient_label_of quotient.now in let into = degrees_of (free_of quotient.now) in
-        IfOk result (λ images. AreImagesOf (⟦<Quotient as GradedModule<F>>⟧.is_element quotient.now f.now) (⟦<Quotient as GradedModule<F>>⟧.degree quotient.now)
-        (⟦<Quotient as GradedModule<F>>⟧.coordinate quotient.now f.now) (edge_number (prime_of x) (label_rank_of x) (coordinate_of x) (leading_of x) into)
+        IfOk result (λ images. AreImagesOf (⟦<Quotient as GradedModule<F>>⟧.is_element quotient.now f.now)
+            (⟦<Quotient as GradedModule<F>>⟧.degree quotient.now)
+        (⟦<Quotient as GradedModule<F>>⟧.coordinate quotient.now f.now)
+            (edge_number (prime_of x) (label_rank_of x) (coordinate_of x) (leading_of x) into)
         (stalk_count (label_rank_of x - 1) into) (degrees_of (free_of quotient.now)) unit_element images.items) }
 {
     let free = quotient.free();
@@ -137,12 +139,16 @@ pub(crate) fn lifted<F: Field>(
     requires prime { F.size f.now ≡ prime_of (quotient_label_of quotient.now) }
     requires degrees { All (λ a. a ≤ 6) (degrees_of from.now) }
     requires lifts { length lifts.now ≡ length (degrees_of from.now) }
-    requires fit { LiftsFit (rank_of (free_of quotient.now)) (degrees_of from.now) (degrees_of (free_of quotient.now)) lifts.now }
+    requires fit { LiftsFit (rank_of (free_of quotient.now)) (degrees_of from.now) (degrees_of (free_of quotient.now))
+        lifts.now }
     requires values { All (λ v. ValuesBelow v (F.size f.now)) lifts.now }
     ensures { let x = quotient_label_of quotient.now in let into = degrees_of (free_of quotient.now) in
-        IfOk result (λ images. AreImagesOf (⟦<Quotient as GradedModule<F>>⟧.is_element quotient.now f.now) (⟦<Quotient as GradedModule<F>>⟧.degree quotient.now)
-        (⟦<Quotient as GradedModule<F>>⟧.coordinate quotient.now f.now) (edge_number (prime_of x) (label_rank_of x) (coordinate_of x) (leading_of x) into)
-        (stalk_count (label_rank_of x - 1) into) (degrees_of from.now) (lift_by (label_rank_of x) (degrees_of from.now) into lifts.now) images.items) }
+        IfOk result (λ images. AreImagesOf (⟦<Quotient as GradedModule<F>>⟧.is_element quotient.now f.now)
+            (⟦<Quotient as GradedModule<F>>⟧.degree quotient.now)
+        (⟦<Quotient as GradedModule<F>>⟧.coordinate quotient.now f.now)
+            (edge_number (prime_of x) (label_rank_of x) (coordinate_of x) (leading_of x) into)
+        (stalk_count (label_rank_of x - 1) into) (degrees_of from.now)
+            (lift_by (label_rank_of x) (degrees_of from.now) into lifts.now) images.items) }
 {
     let into = quotient.free();
     let projection = Projection::new(quotient);
@@ -158,8 +164,9 @@ pub(crate) fn lifted<F: Field>(
     Ok(images)
 }
 
-/// The map to an edge's module in degree `d` from the stalk at the lower end, by the images of its generators, which are those by
-/// the lifts. The table is that of the module's label. Wants memory also where there are 2^32 or more coordinates.
+/// The map to an edge's module in degree `d` from the stalk at the lower end, by the images of its generators, which
+/// are those by the lifts. The table is that of the module's label. Wants memory also where there are 2^32 or more
+/// coordinates.
 pub(crate) fn lower_rows<F: Field>(
     alloc: Global,
     f: &F,
@@ -175,9 +182,12 @@ pub(crate) fn lower_rows<F: Field>(
     requires from { rank_of from.now ≡ label_rank_of (label_of table.now) }
     requires degree { d < table_degrees_of table.now }
     requires images { let x = quotient_label_of quotient.now in let into = degrees_of (free_of quotient.now) in
-        AreImagesOf (⟦<Quotient as GradedModule<F>>⟧.is_element quotient.now f.now) (⟦<Quotient as GradedModule<F>>⟧.degree quotient.now)
-        (⟦<Quotient as GradedModule<F>>⟧.coordinate quotient.now f.now) (edge_number (prime_of x) (label_rank_of x) (coordinate_of x) (leading_of x) into)
-        (stalk_count (label_rank_of x - 1) into) (degrees_of from.now) (lift_by (label_rank_of x) (degrees_of from.now) into lifts.now) images.now }
+        AreImagesOf (⟦<Quotient as GradedModule<F>>⟧.is_element quotient.now f.now)
+            (⟦<Quotient as GradedModule<F>>⟧.degree quotient.now)
+        (⟦<Quotient as GradedModule<F>>⟧.coordinate quotient.now f.now)
+            (edge_number (prime_of x) (label_rank_of x) (coordinate_of x) (leading_of x) into)
+        (stalk_count (label_rank_of x - 1) into) (degrees_of from.now)
+            (lift_by (label_rank_of x) (degrees_of from.now) into lifts.now) images.now }
     ensures { IfOk result (λ rows. SameMatrix (matrix_of_entries rows)
         (lower_map_on table.now (free_of quotient.now) d (degrees_of from.now) lifts.now)) }
 {
@@ -199,8 +209,10 @@ pub(crate) fn upper_rows<F: Field>(
     requires label { quotient_label_of quotient.now ≡ label_of table.now }
     requires degree { d < table_degrees_of table.now }
     requires images { let x = quotient_label_of quotient.now in let into = degrees_of (free_of quotient.now) in
-        AreImagesOf (⟦<Quotient as GradedModule<F>>⟧.is_element quotient.now f.now) (⟦<Quotient as GradedModule<F>>⟧.degree quotient.now)
-        (⟦<Quotient as GradedModule<F>>⟧.coordinate quotient.now f.now) (edge_number (prime_of x) (label_rank_of x) (coordinate_of x) (leading_of x) into)
+        AreImagesOf (⟦<Quotient as GradedModule<F>>⟧.is_element quotient.now f.now)
+            (⟦<Quotient as GradedModule<F>>⟧.degree quotient.now)
+        (⟦<Quotient as GradedModule<F>>⟧.coordinate quotient.now f.now)
+            (edge_number (prime_of x) (label_rank_of x) (coordinate_of x) (leading_of x) into)
         (stalk_count (label_rank_of x - 1) into) into unit_element images.now }
     ensures { IfOk result (λ rows. SameMatrix (matrix_of_entries rows) (upper_map_of quotient.now d)) }
 {

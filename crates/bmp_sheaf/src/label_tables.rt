@@ -27,7 +27,8 @@ fn is_by(table: &NormalTable, label: &Label) -> bool
 /// The number of the first table by an equal label, or how many tables there are.
 fn find(tables: &[NormalTable], label: &Label) -> usize
     ensures within { result ≤ length tables.now }
-    ensures found { (t : NormalTable) → result < length tables.now → IsBy (slice_index_or tables.now result t) label.now }
+    ensures found { (t : NormalTable) → result < length tables.now →
+        IsBy (slice_index_or tables.now result t) label.now }
     ensures first { (k : ℕ) (t : NormalTable) → k < result → ¬ IsBy (slice_index_or tables.now k t) label.now }
 {
     for (number, table) in tables.iter().enumerate() {

@@ -11,6 +11,7 @@ mod owners;
 mod push;
 mod rules;
 mod shared;
+mod shared_list;
 pub mod sheaf;
 mod sizes;
 mod stalk;

@@ -41,10 +41,9 @@ impl<F: Field> Sheaf<F> {
         }
     }
 
-    /// Adds a stalk without generators at each vertex of length `k`, from the greatest vertex on whose stalk isn't there,
-    /// and answers how many these are. Afterwards what is kept of the edges going up from them is there. Where it wants
-    /// memory some of the stalks may be there.
-    pub fn open_length(&mut self, k: u32) -> Result<u32, AllocError>
+    /// Adds a stalk without generators at each vertex of length `k`, from the greatest vertex on whose stalk isn't
+    /// there, and answers how many these are. Where it wants memory some of the stalks may be there.
+    fn open_vertices(&mut self, k: u32) -> Result<u32, AllocError>
         ensures { IfOk result (IsOpened self.old self.new k) }
     {
         let from = self.pushed();
@@ -52,5 +51,18 @@ impl<F: Field> Sheaf<F> {
             self.push_empty()?;
         }
         Ok(self.pushed() - from)
+    }
+
+    /// Adds a stalk without generators at each vertex of length `k`, from the greatest vertex on whose stalk isn't
+    /// there, and answers how many these are. Afterwards what is kept of the edges going up from them is there, and
+    /// sheaves that come of `first` share the stalks of the other vertices, and these maps, at no cost. Where it wants
+    /// memory some of the stalks may be there.
+    pub fn open_length(&mut self, k: u32) -> Result<u32, AllocError>
+        ensures { IfOk result (IsOpened self.old self.new k) }
+    {
+        self.settle_stalks()?;
+        let count = self.open_vertices(k)?;
+        self.settle_uppers()?;
+        Ok(count)
     }
 }

@@ -50,8 +50,8 @@ impl<F: Field> Sheaf<F> {
         Ok(uppers)
     }
 
-    /// By edge going up from `x`, the next vertex, and then by degree the map to the edge's module, where the stalk `from` with
-    /// these lifts comes to `x`.
+    /// By edge going up from `x`, the next vertex, and then by degree the map to the edge's module, where the stalk
+    /// `from` with these lifts comes to `x`.
     fn lower_up(
         &self,
         x: u32,
@@ -118,7 +118,8 @@ impl<F: Field> Sheaf<F> {
     /// Adds what is kept of the stalk at the next vertex, and keeps the maps from the upper ends for vertices to come.
     pub(crate) fn add(&mut self, part: Arc<StalkPart<F>, Global>) -> Result<(), AllocError>
         requires left { length self.old.stalks < vertex_count self.old.graph }
-        requires table { IsStalkTable (with_stalk self.old (stalk_in (arc_value part))) (next_vertex self.old) (arc_value part) }
+        requires table { IsStalkTable (with_stalk self.old (stalk_in (arc_value part))) (next_vertex self.old)
+            (arc_value part) }
         ensures ok { OnOk result (self.new ≡ with_stalk self.old (stalk_in (arc_value part))) }
         ensures err { OnErr result (self.new ≡ self.old) }
     {

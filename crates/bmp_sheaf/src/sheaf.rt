@@ -19,6 +19,7 @@ ghost use Rattle.bmp_sheaf.specs.UpperTables.{IsEdgeModule, IsUpperOf, AreUpperT
 
 use crate::fault::SheafFault;
 use crate::label_tables::LabelTables;
+use crate::shared_list::SharedList;
 use crate::stalk::StalkPart;
 use crate::upper_maps::{UpperMap, UpperMaps};
 use bmp_field::Field;
@@ -38,27 +39,26 @@ pub(crate) struct Setting<F: Field> {
     tables: LabelTables,
 }
 
-/// A sheaf on a moment graph, up to a degree. Its stalks come one by one, from the greatest vertex down. Sheaves share what
-/// they have in common.
+/// A sheaf on a moment graph, up to a degree. Its stalks come one by one, from the greatest vertex down. Sheaves share
+/// what they have in common.
 #[derive(Drop)]
 pub struct Sheaf<F: Field> {
     pub(crate) setting: Arc<Setting<F>, Global>,
     pub(crate) uppers: UpperMaps<F>,
-    pub(crate) stalks: Vec<Arc<StalkPart<F>, Global>>,
+    pub(crate) stalks: SharedList<StalkPart<F>>,
 }
 
 impl<F: Field> Model for Sheaf<F> {
-    ghost use Rattle.std.specs.Prelude.{map};
     ghost use Rattle.std.specs.Arc.{arc_value};
     ghost use Rattle.bmp_sheaf.specs.States.{SheafState};
     ghost use Rattle.bmp_sheaf.specs.StalkTables.{state_of, IsKept};
 
     ghost Value = { SheafState F };
 
-    ghost view = { λ s. let c = arc_value s.setting in state_of c.graph c.field c.degree (map arc_value s.stalks.items) };
+    ghost view = { λ s. let c = arc_value s.setting in state_of c.graph c.field c.degree s.stalks };
 
-    ghost invariant = { λ s. let c = arc_value s.setting in let ts = map arc_value s.stalks.items in
-        IsKept (F.size c.field) (state_of c.graph c.field c.degree ts) c.tables s.uppers ts };
+    ghost invariant = { λ s. let c = arc_value s.setting in
+        IsKept (F.size c.field) (state_of c.graph c.field c.degree s.stalks) c.tables s.uppers s.stalks };
 }
 
 impl<F: Field + Drop> Sheaf<F> {
@@ -74,7 +74,7 @@ impl<F: Field + Drop> Sheaf<F> {
         ensures { IfOk result (λ s. s ≡ record { graph = graph.now; field = f; degree = degree; stalks = [] }) }
     {
         let _rank = graph.rank();
-        let stalks = Vec::with_capacity(alloc, graph.vertices() as usize)?;
+        let stalks = SharedList::with_capacity(alloc, graph.vertices() as usize)?;
         let setting = Setting {
             graph: graph.copy(alloc)?,
             tables: LabelTables::new(alloc, &f, graph, degree)?,
@@ -83,15 +83,15 @@ impl<F: Field + Drop> Sheaf<F> {
         };
         Ok(Sheaf {
             setting: Arc::new(alloc, setting)?,
-            uppers: UpperMaps::new(alloc),
+            uppers: UpperMaps::new(alloc)?,
             stalks,
         })
     }
 }
 
 impl<F: Field> Sheaf<F> {
-    /// Adds the stalk at the greatest vertex whose stalk isn't there: a free module with generators of these degrees. The
-    /// lifts stand by edge going up from the vertex, and then by generator.
+    /// Adds the stalk at the greatest vertex whose stalk isn't there: a free module with generators of these degrees.
+    /// The lifts stand by edge going up from the vertex, and then by generator.
     pub fn push_vertex(&mut self, degrees: &[u32], lifts: &[Vector]) -> Result<(), SheafFault>
         requires left { length self.old.stalks < vertex_count self.old.graph }
         requires few { length degrees.now < 2 ^ 32 }
@@ -115,7 +115,8 @@ impl<F: Field> Sheaf<F> {
         requires { 0 < length self.old.stalks }
         ensures { (t : Stalk) × (self.old ≡ with_stalk self.new t) }
     {
-        let _ = self.stalks.pop();
+        let count = self.stalks.len() - 1;
+        self.stalks.truncate(count);
     }
 
     /// How many stalks are there.
@@ -152,7 +153,7 @@ impl<F: Field> Sheaf<F> {
 
     /// What takes memory for the sheaf.
     pub(crate) fn allocator(&self) -> Global {
-        *self.stalks.allocator()
+        self.stalks.allocator()
     }
 
     /// The table of normal forms by the label of an edge.
@@ -176,7 +177,7 @@ impl<F: Field> Sheaf<F> {
         ensures table { IsStalkTable self.now x (arc_value result.now) }
         ensures state { IsState self.now }
     {
-        &self.stalks[(self.graph().vertices() - 1 - x) as usize]
+        self.stalks.at((self.graph().vertices() - 1 - x) as usize)
     }
 
     /// What is kept of the stalk at a vertex.
@@ -236,8 +237,10 @@ impl<F: Field> Sheaf<F> {
         requires edge { e < edge_count self.now.graph }
         requires there { IsThere self.now (lower self.now.graph e) }
         ensures module { IsEdgeModule self.now e result.now }
-        ensures graded { ⟦<Quotient as GradedModule<F>>⟧.graded result.now ≡ edge_module self.now.graph (sheaf_of self.now) e }
-        ensures dimension { (d : ℕ) → (⟦<Quotient as GradedModule<F>>⟧.graded result.now).dim d ≡ edge_module_count self.now.graph (sheaf_of self.now) d e }
+        ensures graded { ⟦<Quotient as GradedModule<F>>⟧.graded result.now ≡ edge_module self.now.graph
+            (sheaf_of self.now) e }
+        ensures dimension { (d : ℕ) → (⟦<Quotient as GradedModule<F>>⟧.graded result.now).dim d
+            ≡ edge_module_count self.now.graph (sheaf_of self.now) d e }
     {
         &self.upper(e).quotient
     }
@@ -250,7 +253,8 @@ impl<F: Field> Sheaf<F> {
         ensures lift { let lifts = (stalk_of self.now (lower self.now.graph e)).lifts in
             result.now ≡ slice_index_or lifts (lift_place self.now.graph (sheaf_of self.now).degrees e g) [] }
         ensures element { let s = sheaf_of self.now in let G = self.now.graph in
-            s.lift e g ≡ element_of G.rank (s.degrees (upper G e)) (slice_index (s.degrees (lower G e)) g) (number_at result.now) }
+            s.lift e g ≡ element_of G.rank (s.degrees (upper G e)) (slice_index (s.degrees (lower G e)) g)
+                (number_at result.now) }
         ensures fits { let s = sheaf_of self.now in let G = self.now.graph in
             FitsBelow result.now (stalk_count G.rank (s.degrees (upper G e)) (slice_index (s.degrees (lower G e)) g)) }
         ensures values { ValuesBelow result.now self.now.graph.prime }
@@ -260,15 +264,17 @@ impl<F: Field> Sheaf<F> {
         &part.lifts.as_slice()[place]
     }
 
-    /// The matrix, in degree `d`, of the module map from the stalk at an edge's lower end to the edge's module: a row for each
-    /// coordinate there.
+    /// The matrix, in degree `d`, of the module map from the stalk at an edge's lower end to the edge's module: a row
+    /// for each coordinate there.
     pub fn lower_rows(&self, e: u32, d: u32) -> &SparseRows<F>
         requires edge { e < edge_count self.now.graph }
         requires there { IsThere self.now (lower self.now.graph e) }
         requires degree { d ≤ self.now.degree }
-        ensures matrix { SameMatrix (matrix_of_entries result.now) (lower_matrix self.now.graph (sheaf_of self.now) d e) }
+        ensures matrix { SameMatrix (matrix_of_entries result.now) (lower_matrix self.now.graph (sheaf_of self.now) d e)
+            }
         ensures map { let G = self.now.graph in let s = sheaf_of self.now in
-            SameMatrix (matrix_of_entries result.now) (matrix_of_map G.prime (stalk_module G s (lower G e)) (edge_module G s e) (from_lower G s e) d) }
+            SameMatrix (matrix_of_entries result.now)
+                (matrix_of_map G.prime (stalk_module G s (lower G e)) (edge_module G s e) (from_lower G s e) d) }
         ensures numbers { NumbersBelow self.now.graph.prime (matrix_of_entries result.now) }
         ensures state { IsState self.now }
     {
@@ -281,16 +287,19 @@ impl<F: Field> Sheaf<F> {
         requires edge { e < edge_count self.now.graph }
         requires there { IsThere self.now (lower self.now.graph e) }
         requires degree { d ≤ self.now.degree }
-        ensures matrix { SameMatrix (matrix_of_entries result.now) (upper_matrix self.now.graph (sheaf_of self.now) d e) }
+        ensures matrix { SameMatrix (matrix_of_entries result.now) (upper_matrix self.now.graph (sheaf_of self.now) d e)
+            }
         ensures map { let G = self.now.graph in let s = sheaf_of self.now in
-            SameMatrix (matrix_of_entries result.now) (matrix_of_map G.prime (stalk_module G s (upper G e)) (edge_module G s e) (from_upper G s e) d) }
+            SameMatrix (matrix_of_entries result.now)
+                (matrix_of_map G.prime (stalk_module G s (upper G e)) (edge_module G s e) (from_upper G s e) d) }
         ensures numbers { NumbersBelow self.now.graph.prime (matrix_of_entries result.now) }
         ensures state { IsState self.now }
     {
         &self.upper(e).rows[d as usize]
     }
 
-    /// Coordinate `i` on an edge, in degree `d`, of the image of the element of its lower end that is 1 at coordinate `j`.
+    /// Coordinate `i` on an edge, in degree `d`, of the image of the element of its lower end that is 1 at coordinate
+    /// `j`.
     pub fn lower_at(&self, e: u32, d: u32, i: u32, j: u32) -> F::E
         requires edge { e < edge_count self.now.graph }
         requires there { IsThere self.now (lower self.now.graph e) }

@@ -33,7 +33,8 @@ impl<F: Field> Sheaf<F> {
         len
     }
 
-    /// The greatest number of stalk coordinates or of boundary coordinates of degree `d` at a vertex whose stalk is there.
+    /// The greatest number of stalk coordinates or of boundary coordinates of degree `d` at a vertex whose stalk is
+    /// there.
     pub fn scratch_len(&self, d: u32) -> u64
         requires { d ≤ self.now.degree }
         ensures room { IsRoom self.now d result }

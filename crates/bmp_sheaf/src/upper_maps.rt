@@ -9,7 +9,7 @@ ghost use Rattle.bmp_sheaf.specs.UpperTables.{IsUpperTable, AreUpperTables};
 
 use crate::edge_maps::{generators, upper_rows};
 use crate::label_tables::same_label;
-use crate::owners::owners;
+use crate::shared_list::SharedList;
 use bmp_field::Field;
 use bmp_linear::SparseRows;
 use bmp_module::{Free, NormalTable, Quotient};
@@ -18,8 +18,8 @@ use std::alloc::{AllocError, Global};
 use std::marker::Model;
 use std::sync::Arc;
 
-/// The module of all edges that have one label and above which the stalks have generators of the same degrees, and the map to
-/// it from such a stalk.
+/// The module of all edges that have one label and above which the stalks have generators of the same degrees, and the
+/// map to it from such a stalk.
 #[derive(Drop)]
 pub(crate) struct UpperMap<F: Field> {
     pub(crate) quotient: Quotient,
@@ -71,35 +71,42 @@ fn is_of(quotient: &Quotient, label: &Label, stalk: &Free) -> bool
 /// Maps that are kept, each of which is found by its label and its degrees.
 #[derive(Drop)]
 pub(crate) struct UpperMaps<F: Field> {
-    pub(crate) maps: Vec<Arc<UpperMap<F>, Global>>,
+    pub(crate) maps: SharedList<UpperMap<F>>,
 }
 
 impl<F: Field> Model for UpperMaps<F> {
-    ghost use Rattle.std.specs.Prelude.{List, map};
-    ghost use Rattle.std.specs.Arc.{arc_value};
+    ghost use Rattle.std.specs.Prelude.{List};
     ghost use Rattle.bmp_sheaf.specs.UpperTables.{UpperTable};
 
     ghost Value = { List UpperTable };
 
-    ghost view = { λ s. map arc_value s.maps.items };
+    ghost view = { λ s. s.maps };
 }
 
 impl<F: Field> UpperMaps<F> {
     /// No map.
-    pub(crate) fn new(alloc: Global) -> UpperMaps<F>
-        ensures { result ≡ [] }
+    pub(crate) fn new(alloc: Global) -> Result<UpperMaps<F>, AllocError>
+        ensures { IfOk result (λ maps. maps ≡ []) }
     {
-        UpperMaps {
-            maps: Vec::new(alloc),
-        }
+        Ok(UpperMaps {
+            maps: SharedList::with_capacity(alloc, 0)?,
+        })
     }
 
     /// A list of the same maps.
-    pub(crate) fn copy(&self, alloc: Global) -> Result<UpperMaps<F>, AllocError>
+    pub(crate) fn copy(&self) -> Result<UpperMaps<F>, AllocError>
         ensures { IfOk result (λ copy. copy ≡ self.now) }
     {
-        let maps = owners(alloc, &self.maps)?;
-        Ok(UpperMaps { maps })
+        Ok(UpperMaps {
+            maps: self.maps.first(self.maps.len())?,
+        })
+    }
+
+    /// Makes all maps one that other lists share at no cost.
+    pub(crate) fn settle(&mut self) -> Result<(), AllocError>
+        ensures { self.new ≡ self.old }
+    {
+        self.maps.settle()
     }
 
     /// The first map of such a stalk and the label. Looks through all that are kept.
@@ -108,7 +115,8 @@ impl<F: Field> UpperMaps<F> {
         ensures degrees { IfSome result (λ u. degrees_of (free_of (arc_value u.now).quotient) ≡ degrees_of stalk.now) }
         ensures rows { IfSome result (λ u. (D : ℕ) → AreUpperTables D self.now → IsUpperTable D (arc_value u.now)) }
     {
-        for upper in &self.maps {
+        for i in 0..self.maps.len() {
+            let upper = self.maps.at(i);
             if is_of(&upper.quotient, label, stalk) {
                 return Some(upper);
             }
@@ -116,7 +124,8 @@ impl<F: Field> UpperMaps<F> {
         None
     }
 
-    /// The map of the stalk and the table's label, in the degrees from 0 to `degree`: one that is kept, or else a new one.
+    /// The map of the stalk and the table's label, in the degrees from 0 to `degree`: one that is kept, or else a new
+    /// one.
     pub(crate) fn shared(
         &self,
         f: &F,
@@ -136,14 +145,15 @@ impl<F: Field> UpperMaps<F> {
         if let Some(upper) = self.find(table.label(), stalk) {
             return Arc::try_clone(upper);
         }
-        let alloc = *self.maps.allocator();
+        let alloc = self.maps.allocator();
         let made = upper_map(alloc, f, table, stalk, degree)?;
         Ok(Arc::new(alloc, made)?)
     }
 
     /// Keeps a map, unless there is one by its label and its degrees.
     fn keep(&mut self, upper: &Arc<UpperMap<F>, Global>) -> Result<(), AllocError>
-        ensures { (D : ℕ) → AreUpperTables D self.old → IsUpperTable D (arc_value upper.now) → AreUpperTables D self.new }
+        ensures { (D : ℕ) → AreUpperTables D self.old → IsUpperTable D (arc_value upper.now) →
+            AreUpperTables D self.new }
     {
         if self
             .find(upper.quotient.label(), upper.quotient.free())
@@ -156,7 +166,8 @@ impl<F: Field> UpperMaps<F> {
 
     /// Keeps each of the maps.
     pub(crate) fn keep_all(&mut self, uppers: &[Arc<UpperMap<F>, Global>]) -> Result<(), AllocError>
-        ensures { (D : ℕ) → AreUpperTables D self.old → AreUpperTables D (map arc_value uppers.now) → AreUpperTables D self.new }
+        ensures { (D : ℕ) → AreUpperTables D self.old → AreUpperTables D (map arc_value uppers.now) →
+            AreUpperTables D self.new }
     {
         for upper in uppers {
             self.keep(upper)?;

@@ -237,12 +237,34 @@ fn taken(
     Ok(taken)
 }
 
+/// The same sheaf, whose stalks are shared at no cost: no vertex has length 99.
+fn settled(whole: &Sheaf<PrimeField>) -> Result<Sheaf<PrimeField>, Fail> {
+    let mut settled = whole.first(whole.pushed())?;
+    let _ = settled.open_length(99)?;
+    Ok(settled)
+}
+
+/// The sheaf of the first stalks, from which the others are taken away one by one.
+fn popped(
+    rt: &impl Abort,
+    whole: &Sheaf<PrimeField>,
+    count: u32,
+) -> Result<Sheaf<PrimeField>, Fail> {
+    let mut popped = whole.first(whole.pushed())?;
+    for _ in count..whole.pushed() {
+        assert!(rt; 0 < popped.pushed());
+        popped.pop_vertex();
+    }
+    Ok(popped)
+}
+
 /// The edges whose lower ends are there have the maps that they had.
 #[test]
 fn stalks_that_are_shared(rt: HostRuntime) -> Result<(), Fail> {
     let alloc = rt.alloc();
     let sheaf = constant(&rt, alloc)?;
     is_shared(&sheaf);
+    let settled = settled(&sheaf)?;
     for (count, edges) in [
         (1, &[] as &[u32]),
         (2, &[3]),
@@ -250,7 +272,13 @@ fn stalks_that_are_shared(rt: HostRuntime) -> Result<(), Fail> {
         (4, &[0, 1, 2, 3]),
     ] {
         assert!(rt; count <= sheaf.pushed());
-        for shared in [sheaf.first(count)?, taken(&rt, &sheaf, count)?] {
+        assert!(rt; count <= settled.pushed());
+        for shared in [
+            sheaf.first(count)?,
+            taken(&rt, &sheaf, count)?,
+            settled.first(count)?,
+            popped(&rt, &settled, count)?,
+        ] {
             assert_eq!(rt; shared.pushed(), count);
             for e in edges {
                 for d in 0..3 {

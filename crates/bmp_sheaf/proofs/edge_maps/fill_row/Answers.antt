@@ -8,6 +8,9 @@ loop-j-init c = rw c.clear.ensures (row_none c.args.rows c.args.i c.args.columns
 
 pub loop-j-preserved : goal.loop-j-preserved
 loop-j-preserved c = elim c.if-value-ne0.branch [
-  | then-value-ne0+in_ok-push w ↦ rw (w.row-is, w.in_ok-push.ensures.ok) (row_more c.args.rows c.args.i c.args.columns.now c.loop-j.j c.loop-j.row _ c.loop-j.invariant refl refl)
-  | else-value-ne0 w ↦ rw w.row-is (row_passed c.args.rows c.args.i c.args.columns.now c.loop-j.j c.loop-j.row c.loop-j.invariant w.if-value-ne0.false)
+  | then-value-ne0+in_ok-push w ↦ rw (w.row-is, w.in_ok-push.ensures.ok)
+      (row_more c.args.rows c.args.i c.args.columns.now c.loop-j.j c.loop-j.row _ c.loop-j.invariant refl refl)
+  | else-value-ne0 w ↦ rw w.row-is
+      (row_passed c.args.rows c.args.i c.args.columns.now c.loop-j.j c.loop-j.row c.loop-j.invariant
+      w.if-value-ne0.false)
 ]

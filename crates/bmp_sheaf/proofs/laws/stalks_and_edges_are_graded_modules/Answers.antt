@@ -22,8 +22,10 @@ returns-clause-coordinates c = λ p r l d i c degrees u some below. edge_number_
 
 pub returns-clause-maps : goal.returns-clause-maps
 returns-clause-maps c = λ G F e over inside. record {
-  lower_one = lower_is_map G.prime G.rank (leading G e) (label_coordinates G e) over.two over.inverses (label_leads G over e inside) (F.degrees (upper G e)) (F.degrees (lower G e)) (F.lift e);
-  upper_one = upper_is_map G.prime G.rank (leading G e) (label_coordinates G e) over.two over.inverses (label_leads G over e inside) (F.degrees (upper G e));
+  lower_one = lower_is_map G.prime G.rank (leading G e) (label_coordinates G e) over.two over.inverses
+      (label_leads G over e inside) (F.degrees (upper G e)) (F.degrees (lower G e)) (F.lift e);
+  upper_one = upper_is_map G.prime G.rank (leading G e) (label_coordinates G e) over.two over.inverses
+      (label_leads G over e inside) (F.degrees (upper G e));
 }
 
 pub returns-clause-matrices : goal.returns-clause-matrices

@@ -1,7 +1,7 @@
 use Rattle.std.proofs.Common.{◌-◌, refl, ap₂, arith}
 use Rattle.bmp_sheaf.specs.States.{no_stalk}
 use Rattle.bmp_sheaf.proofs.OpeningLemmas.{none_opened, one_opened, all_opened}
-use Rattle.bmp_sheaf.proofs.sheaf.Sheaf.open_length.Goals as goal
+use Rattle.bmp_sheaf.proofs.sheaf.Sheaf.open_vertices.Goals as goal
 
 pub vertices-init : goal.vertices-init
 vertices-init g c = none_opened (omega (arith, c.pushed-from.ensures.count, c.pushed-from.ensures.within))

@@ -1,7 +1,7 @@
 use Rattle.std.proofs.Common.{◌-◌, length}
 use Rattle.bmp_graph.specs.Graph.{vertex_count}
 use Rattle.bmp_sheaf.proofs.OpeningLemmas.{IsOpening}
-use Rattle.bmp_sheaf.proofs.sheaf.Sheaf.open_length.Given as goal
+use Rattle.bmp_sheaf.proofs.sheaf.Sheaf.open_vertices.Given as goal
 
 -- the vertices so far
 abbrev pub invariant-vertices : goal.invariant-vertices
