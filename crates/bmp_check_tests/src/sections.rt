@@ -1,5 +1,6 @@
-//! The vertices above a vertex, the edge equations over them, and the check that a tuple is a section.
-ghost use Rattle.std.specs.Prelude.{◌≡◌};
+//! The vertices above a vertex, the edge equations over them, the check that a tuple is a section, and its restriction.
+ghost use Rattle.std.specs.Prelude.{◌≡◌, ◌<◌};
+ghost use Rattle.bmp_graph.specs.Graph.{vertex_count};
 ghost use Rattle.bmp_check.specs.declared.method.Method.TheVariants.{Spaces};
 ghost use Rattle.bmp_check.specs.ShapedViews.{graph_in, method_at, cert_in, IsWhole};
 ghost use Rattle.bmp_check.specs.Verdicts.{HasBlock};
@@ -10,6 +11,7 @@ use bmp_field::PrimeField;
 use bmp_linear::{Entry, Rows, SparseRows, Vector};
 use bmp_sections::compatible::compatible;
 use bmp_sections::constraints::constraints;
+use bmp_sections::restrict::restrict;
 use bmp_sections::{EdgeFault, UpperSet};
 use std::alloc::{AllocError, Global};
 use std::test::Fail;
@@ -26,6 +28,21 @@ fn vertices_above(rt: HostRuntime) -> Result<(), Fail> {
         let set = UpperSet::above(rt.alloc(), &graph, x)?;
         let found = [set.has(0), set.has(1), set.has(2), set.has(3)];
         assert_eq!(rt; found, wanted, "above {x}");
+    }
+    Ok(())
+}
+
+#[test]
+fn longer_vertices(rt: HostRuntime) -> Result<(), Fail> {
+    let graph = diagonal_square(rt.alloc())?;
+    for (l, wanted) in [
+        (0, [false, true, true, true]),
+        (1, [false, false, false, true]),
+        (2, [false, false, false, false]),
+    ] {
+        let set = UpperSet::longer(rt.alloc(), &graph, l)?;
+        let found = [set.has(0), set.has(1), set.has(2), set.has(3)];
+        assert_eq!(rt; found, wanted, "longer than {l}");
     }
     Ok(())
 }
@@ -131,6 +148,50 @@ fn sections_of_the_square(rt: HostRuntime) -> Result<(), Fail> {
             right: 0,
         });
         assert_eq!(rt; found.err(), fault, "{numbers:?}");
+    }
+    Ok(())
+}
+
+/// The restriction to the vertices above `y` of the tuple over those above 0 with these numbers at its positions.
+fn restricted(alloc: Global, s: &Shaped, y: u32, d: u32, numbers: [u8; 6]) -> Result<Vector, Fail>
+    requires whole { IsWhole s.now }
+    requires method { method_at s.now ≡ Spaces }
+    requires block { HasBlock (graph_in s.now) (cert_in s.now) 0 d }
+    requires vertex { y < vertex_count (graph_in s.now) }
+{
+    let tuple = Vector::of_numbers(alloc, &numbers)?;
+    let sizes = s.sizes().block(s.graph(), s.given(), 0, d);
+    if !tuple.fits(u32::try_from(sizes.columns)?) || !tuple.is_below(u32::from(s.graph().prime())) {
+        return Err(Fail::new("the numbers make no tuple"));
+    }
+    let sheaf = s.sheaf();
+    let from = UpperSet::above(alloc, sheaf.graph(), 0)?;
+    let to = UpperSet::above(alloc, sheaf.graph(), y)?;
+    if !from.has(y) {
+        return Err(Fail::new("the vertex isn't above 0"));
+    }
+    Ok(restrict(alloc, sheaf, &from, &to, d, &tuple)?)
+}
+
+/// In degree 1 the value at 3 stands at the places 4 and 5, and alone at 0 and 1.
+#[test]
+fn restrictions_on_the_square(rt: HostRuntime) -> Result<(), Fail> {
+    let graph = diagonal_square(rt.alloc())?;
+    let cert = square_parts(rt.alloc(), WITH_SECOND)?;
+    let given = Given {
+        degree: 1,
+        version: 1,
+        parts: &cert.vertices,
+    };
+    let shaped = shape(rt.alloc(), &graph, &given)?;
+    for (numbers, wanted) in [
+        ([1, 2, 1, 2, 0, 2], [0, 2]),
+        ([0, 0, 0, 0, 2, 1], [2, 1]),
+        ([2, 2, 2, 2, 0, 0], [0, 0]),
+    ] {
+        let found = restricted(rt.alloc(), &shaped, 1, 1, numbers)?;
+        let value = Vector::of_numbers(rt.alloc(), &wanted)?;
+        assert_eq!(rt; found.entries(), value.entries(), "{numbers:?}");
     }
     Ok(())
 }

@@ -16,3 +16,4 @@ pub mod TupleLemmas
 pub mod UpperSetLemmas
 pub mod EdgeFaultLemmas
 pub mod StoredRowLemmas
+pub mod RestrictLemmas

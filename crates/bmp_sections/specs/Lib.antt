@@ -5,4 +5,5 @@ pub mod TupleLists
 pub mod Indexes
 pub mod RowParts
 pub mod EdgeFaults
+pub mod Restrictions
 pub mod Statements

@@ -1,6 +1,7 @@
 -- Positions of a tuple over a set of vertices, and the values of the edge equations. The set is given by a test. In the
 -- order to read:
 --   TestsAbove G x U             the test U is true at the vertices above x, and at no others
+--   TestsLonger G l U            the test U is true at the vertices longer than l, and at no others
 --   position_start G F U d y     where the coordinates of the value at y stand, the vertices of U in rising order
 --   position_count G F U d       how many positions there are
 --   tuple_of G F U d numbers     the tuple with these numbers at its positions
@@ -11,13 +12,16 @@
 use Rattle.std.specs.Prelude.{◌↔◌, ℕ, ◌+◌, ◌<◌, Bool, ◌&&◌, if◌then◌else◌, IsTrue}
 use Rattle.bmp_math.specs.Sums.{sum_below}
 use Rattle.bmp_math.specs.Congruences.{SameMod}
-use Rattle.bmp_graph.specs.Graph.{Graph, IsAbove, vertex_count, edge_count, lower, upper, label}
+use Rattle.bmp_graph.specs.Graph.{Graph, IsAbove, vertex_count, edge_count, length_at, lower, upper, label}
 use Rattle.bmp_sheaf.specs.Sheaves.{SheafData, Tuple, lift_of}
 use Rattle.bmp_sheaf.specs.Elements.{Element}
 use Rattle.bmp_sheaf.specs.Coordinates.{leading, stalk_count, element_of, edge_module_count, AreEdgeCoordinates}
 
 abbrev pub TestsAbove : Graph → ℕ → (ℕ → Bool) → Type 0
 TestsAbove G x U = (y : ℕ) → y < vertex_count G → (IsTrue (U y) ↔ IsAbove G y x)
+
+abbrev pub TestsLonger : Graph → ℕ → (ℕ → Bool) → Type 0
+TestsLonger G l U = (y : ℕ) → y < vertex_count G → (IsTrue (U y) ↔ (l < length_at G y))
 
 module _ (G : Graph) (F : SheafData) (U : ℕ → Bool) (d : ℕ) where
   abbrev pub position_start : ℕ → ℕ

@@ -7,6 +7,7 @@ pub mod equations;
 pub mod index;
 pub mod laws;
 mod negated;
+pub mod restrict;
 mod row_parts;
 mod runs;
 pub mod sections;

@@ -1,13 +1,13 @@
-//! The vertices above a vertex, as a set in memory.
+//! The vertices above a vertex, and those longer than a number, as sets in memory.
 ghost use Rattle.std.specs.Prelude.{◌≡◌, ◌<◌, false, IfOk, length, slice_index_or};
 ghost use Rattle.bmp_graph.specs.Graph.{vertex_count};
-ghost use Rattle.bmp_sections.specs.Positions.{TestsAbove};
+ghost use Rattle.bmp_sections.specs.Positions.{TestsAbove, TestsLonger};
 
 use bmp_graph::MomentGraph;
 use std::alloc::{AllocError, Global};
 use std::marker::Model;
 
-/// The set of the vertices above a vertex.
+/// The set of the vertices above a vertex, or of those that are longer than a number.
 #[derive(Debug, Drop)]
 pub struct UpperSet {
     tests: Vec<bool>,
@@ -31,6 +31,18 @@ impl UpperSet {
         let mut tests = Vec::with_capacity(alloc, graph.vertices() as usize)?;
         for y in 0..graph.vertices() {
             tests.push(graph.is_above(y, x))?;
+        }
+        Ok(UpperSet { tests })
+    }
+
+    /// The vertices that are longer than `l`.
+    pub fn longer(alloc: Global, graph: &MomentGraph, l: u32) -> Result<UpperSet, AllocError>
+        ensures vertices { IfOk result (λ set. length set ≡ vertex_count graph.now) }
+        ensures longer { IfOk result (λ set. TestsLonger graph.now l (λ y. slice_index_or set y false)) }
+    {
+        let mut tests = Vec::with_capacity(alloc, graph.vertices() as usize)?;
+        for y in 0..graph.vertices() {
+            tests.push(l < graph.length(y))?;
         }
         Ok(UpperSet { tests })
     }
