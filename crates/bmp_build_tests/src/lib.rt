@@ -1,5 +1,7 @@
-//! Tests of certificates that are built by levels.
+//! Tests of certificates that are built, and of what is built on graphs that are no interval's.
 #![tactic(auto)]
 
 #[cfg(test)]
 mod built;
+#[cfg(test)]
+mod graphs;
