@@ -1,7 +1,8 @@
 #!/usr/bin/env python3
-"""Breaks the lines of sources, specs and proofs that are wider than 120 columns, imports apart; with --check it only names them.
+"""Breaks the lines of sources, specs and proofs that are wider than 120 columns, imports apart. With --check it only names
+them, and those of the documents, tables apart, and ends with 1 where there is one.
 
-Usage: scripts/narrow.py [--check] [FILE ..]     (those of crates/ where none is given)
+Usage: scripts/narrow.py [--check] [FILE ..]     (those of crates/, and of the documents, where none is given)
 
 A line is broken at a space where the fewest brackets are open, if it can be behind an arrow, a sign of equality, a comma
 or the word `in`, or before a path's sign; what follows is indented by four columns more than the line.
@@ -13,7 +14,9 @@ from pathlib import Path
 
 WIDTH = 120
 # where files are looked for when none is named: never in what a check leaves in out/
-PARTS = ["specs/**/*.antt", "proofs/**/*.antt", "src/**/*.rt"]
+PARTS = ["crates/*/specs/**/*.antt", "crates/*/proofs/**/*.antt", "crates/*/src/**/*.rt"]
+# where a wide line is only named: how a text goes on is its writer's to say
+TEXTS = ["README.md", "docs/*.md", "examples/*.md"]
 OPENING, CLOSING = "([{", ")]}"
 BEHIND = {"→": 6, "↔": 6, "=": 9, ":": 7, "in": 8, "then": 3, "×": 5, "⊎": 5, "%": -12, "+": -6, "*": -6, "≡": -4}
 BEFORE = {"∙": 6, "%": 4, "≡": 3, "then": 4, "else": 4, "→": 0, "=": -20, "↦": -20, ":": -6, "in": -30}
@@ -119,13 +122,18 @@ def narrowed(lines):
 
 def main():
     words = sys.argv[1:]
+    if "--help" in words:
+        print(__doc__)
+        return 0
     check = "--check" in words
     named = [Path(word) for word in words if word != "--check"]
     top = Path(__file__).resolve().parent.parent
+    parts = PARTS + (TEXTS if check else [])
     wide = 0
-    for path in named or sorted(path for part in PARTS for path in top.glob(f"crates/*/{part}")):
+    for path in named or sorted(path for part in parts for path in top.glob(part)):
         lines = path.read_text().split("\n")
-        marked = [number for number, line in enumerate(lines, 1) if is_wide(line)]
+        table = "|" if path.suffix == ".md" else "\n"
+        marked = [number for number, line in enumerate(lines, 1) if is_wide(line) and not line.startswith(table)]
         if check:
             wide += len(marked)
             for number in marked:

@@ -204,7 +204,8 @@ module _ {A : Type 0} {G : Graph} {D k : ℕ} {s : SheafState A} {parts : List V
       shorter = elim (cases_lt k level) [
         | inl short ↦ short
         | inr long ↦ absurd
-            (let there = h.there (vertex_count G - 1 - length parts) (omega (arith, left)) (omega (arith, long, next)) in
+            (let there = h.there (vertex_count G - 1 - length parts) (omega (arith, left))
+                (omega (arith, long, next)) in
             omega (arith, there, left))
       ]
 
@@ -227,7 +228,8 @@ module _ {A : Type 0} {G : Graph} {D k : ℕ} {s : SheafState A} {parts : List V
       own_gap : IsGap s.graph (suc k) level
       own_gap = subst (λ (H : Graph). IsGap H (suc k) level) (sym h.graph) no_other
 
-      longer_family : (d : ℕ) (f : FamilyTable) → HoldsFamily G D level parts s d f → HoldsFamily G D (suc k) parts s d f
+      longer_family : (d : ℕ) (f : FamilyTable) → HoldsFamily G D level parts s d f →
+          HoldsFamily G D (suc k) parts s d f
       longer_family d f old = record {
         holds = record {
           vertices = old.holds.vertices;

@@ -2,13 +2,15 @@
 -- the order to read:
 --   IsSheafUpTo G c i s       the stalks of s are those of the first i parts of c
 --   IsAhead c i s             so are its first i stalks; its others, whatever they are, stand at vertices of one length
---   IsPending v c i n s       s is so, with n stalks behind the first i, and c can be checked on its graph, with evidence
---                             of version v; the number of vertices and all sizes pass
+--   IsPending v c i n s       s is so, with n stalks behind the first i, and c can be checked on its graph, with
+--                             evidence of version v; the number of vertices and all sizes pass
 --   CanAdd c s n              over the first n stalks of s the part number n of c is a stalk
 --   HasAdded c s n t          t has the first n stalks of s, and behind them that of the part number n of c
---   BringsStalk G c n t       t is a sheaf in memory on G with n + 1 stalks; the last is that of the part number n of c,
---                             and those at the upper ends of the edges going up from its vertex are those of their parts
---   BringStalks G c n all     the last of these sheaves brings the stalk number n, the one before it the next, and so on
+--   BringsStalk G c n t       t is a sheaf in memory on G with n + 1 stalks; the last is that of the part number n of
+--                             c, and those at the upper ends of the edges going up from its vertex are those of their
+--                             parts
+--   BringStalks G c n all     the last of these sheaves brings the stalk number n, the one before it the next, and so
+--                             on
 use Rattle.std.specs.Prelude.{◌≡◌, ℕ, ◌+◌, ◌-◌, ◌<◌, ◌≤◌, List, All, length, map, take, slice_index_or}
 use Rattle.bmp_linear.specs.SparseVectors.{ValuesBelow}
 use Rattle.bmp_graph.specs.Graph.{Graph, vertex_count, edge_count, length_at, lower, upper}

@@ -23,7 +23,8 @@ pub(crate) struct StalkTasks<'a> {
     pub(crate) before: u32,
     pub(crate) count: u32,
     pub(crate) ghost counted: { before + count ≡ length sheaf.now.stalks },
-    pub(crate) ghost parts_are: { (n : ℕ) → before ≤ n → n < before + count → CanAdd (written_in given.now) sheaf.now n },
+    pub(crate) ghost parts_are: { (n : ℕ) → before ≤ n → n < before + count →
+        CanAdd (written_in given.now) sheaf.now n },
 }
 
 impl Task for StalkTasks<'_> {
@@ -118,7 +119,8 @@ pub(crate) fn add_stalks(
     requires none { length sheaf.old.stalks ≡ 0 }
     requires degree { sheaf.old.degree ≡ given.now.degree }
     requires workers { (1 ≤ workers) × (workers ≤ 32) }
-    ensures { OnOk result (IsSheafUpTo sheaf.old.graph (written_in given.now) (vertex_count sheaf.old.graph) sheaf.new) }
+    ensures { OnOk result (IsSheafUpTo sheaf.old.graph (written_in given.now) (vertex_count sheaf.old.graph) sheaf.new)
+        }
 {
     let vertices = sheaf.graph().vertices();
     'lengths: while sheaf.pushed() < vertices {

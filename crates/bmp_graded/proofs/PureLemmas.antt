@@ -17,16 +17,19 @@ pub exponents_narrower : (w r d i : ℕ) → r ≤ w → take w (exponents (suc 
 unfolding exponents
 exponents_narrower w zero d i wide = take_zeros w
 exponents_narrower zero (suc r) d i wide = absurd (omega arith)
-exponents_narrower (suc w) (suc r) d i wide = let j = level (count r) i d in ap (λ (m : List ℕ). (d - j) ∷ m) (exponents_narrower w r j (i - sum_below (count r) j) (omega arith))
+exponents_narrower (suc w) (suc r) d i wide = let j = level (count r) i d in
+    ap (λ (m : List ℕ). (d - j) ∷ m) (exponents_narrower w r j (i - sum_below (count r) j) (omega arith))
 
 -- a list with its last member, which is 0, put in at a
-pub rotated_right : (a n : ℕ) (xs : List ℕ) → a ≤ n → length xs ≡ suc n → get_or xs n 0 ≡ 0 → take a xs ++ (drop (n - a) (drop a xs) ++ take (n - a) (drop a xs)) ≡ insert a (take n xs)
+pub rotated_right : (a n : ℕ) (xs : List ℕ) → a ≤ n → length xs ≡ suc n → get_or xs n 0 ≡ 0 →
+    take a xs ++ (drop (n - a) (drop a xs) ++ take (n - a) (drop a xs)) ≡ insert a (take n xs)
 unfolding insert
 rotated_right zero n xs le long last =
     let all : n - 0 ≡ n = omega arith in
     let past : length xs ≤ suc n = omega arith in
     let empty : drop (suc n) xs ≡ [] = drop_of_length-le xs past in
-    let one : drop n xs ≡ 0 ∷ [] = drop-cons xs n 0 (omega arith) ∙ ap₂ (λ (x : ℕ) (rest : List ℕ). x ∷ rest) last empty in
+    let one : drop n xs ≡ 0 ∷ [] =
+        drop-cons xs n 0 (omega arith) ∙ ap₂ (λ (x : ℕ) (rest : List ℕ). x ∷ rest) last empty in
     rw (all, one) refl
 rotated_right (suc a) zero xs le long last = absurd (omega arith)
 rotated_right (suc a) (suc n) [] le long last = absurd (let none : 0 ≡ suc (suc n) = long in omega arith)
@@ -43,7 +46,8 @@ remove_parts (suc l) [] = refl
 remove_parts (suc l) (x ∷ e) = ap (λ (m : List ℕ). x ∷ m) (remove_parts l e)
 
 -- the monomials without the l-th of r variables
-pub without_monomial : (r l d i : ℕ) → l < r → r ≤ 6 → i < count (r - 1) d → IsMonomial 6 r d (insert l (exponents 5 (r - 1) d i))
+pub without_monomial : (r l d i : ℕ) → l < r → r ≤ 6 → i < count (r - 1) d →
+    IsMonomial 6 r d (insert l (exponents 5 (r - 1) d i))
 without_monomial zero l d i here wide inside = absurd (omega arith)
 without_monomial (suc r) l d i here wide inside =
     let less_one : suc r - 1 ≡ r = omega arith in

@@ -1,8 +1,8 @@
 -- The polynomials of an element of a free module, its generators, and equality modulo a linear form.
 --   component r gs h d u            the polynomial at the h-th generator of the element of degree d with coordinates u;
 --                                   its degree is d less the generator's
---   IsGenerator r gs g v            the element with coordinates v is the generator g: its polynomial is 1 at g and 0 at
---                                   the others
+--   IsGenerator r gs g v            the element with coordinates v is the generator g: its polynomial is 1 at g and 0
+--                                   at the others
 --   IsSameModulo p r c gs d u v     at each generator of degree at most d the linear form c divides the difference of
 --                                   the polynomials of u and v
 use Rattle.std.specs.Prelude.{◌≡◌, ℕ, zero, suc, ◌+◌, ◌-◌, ◌<◌, ◌≤◌, ◌==◌, if◌then◌else◌, List, [], ◌∷◌, length, slice_index}

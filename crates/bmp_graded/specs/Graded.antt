@@ -21,7 +21,8 @@ pub record IsModule (p r : ℕ) (M : Graded) : Type 0 where
   -- the monomial of degree 0 acts as the identity
   pub one : (d : ℕ) (v : ℕ → ℕ) → SameVector p (M.dim d) (M.act (zeros 6) d d v) v
   -- monomials act one after another as their product
-  pub after : (m n : List ℕ) (k h d t u : ℕ) (v : ℕ → ℕ) → IsMonomial 6 r k m → IsMonomial 6 r h n → d + k ≡ t → t + h ≡ u
+  pub after : (m n : List ℕ) (k h d t u : ℕ) (v : ℕ → ℕ) → IsMonomial 6 r k m → IsMonomial 6 r h n → d + k ≡ t →
+      t + h ≡ u
       → SameVector p (M.dim u) (M.act n t u (M.act m d t v)) (M.act (joined m n) d u v)
 
 pub record IsModuleMap (p r : ℕ) (M N : Graded) (map : ℕ → (ℕ → ℕ) → ℕ → ℕ) : Type 0 where

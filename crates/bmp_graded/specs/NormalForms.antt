@@ -3,7 +3,8 @@
 --   HasInverses p             each number below p but 0 has an inverse modulo p
 --   inverse_below p x n       a number below n whose product with x is 1 modulo p, and 0 where there is none
 --   pass p r l c d a n        a after the first n monomials of degree d were replaced where they hold the l-th variable
---   normal_by p r l c d a     the normal form of a, of degree d, by the linear form c whose leading variable is the l-th
+--   normal_by p r l c d a     the normal form of a, of degree d, by the linear form c whose leading variable is the
+--                             l-th
 use Rattle.std.specs.Prelude.{◌≡◌, ◌≢◌, ◌<◌, ℕ, zero, suc, ◌+◌, ◌-◌, ◌*◌, ◌%◌, cond, slice_index}
 use Rattle.std.proofs.Common.{eqb}
 use Rattle.bmp_poly.specs.Exponents.{count, exponents}
@@ -21,7 +22,8 @@ pass p r l c d a zero = a
 pass p r l c d a (suc n) =
     let e = exponents 6 r d n in
     let b = pass p r l c d a n in
-    cond (eqb (slice_index e l) 0) b (λ m. b m + ((p - 1) * (b e * inverse_below p (c l) p)) * times_label r c (unit_form r (lowered l e)) m)
+    cond (eqb (slice_index e l) 0) b
+        (λ m. b m + ((p - 1) * (b e * inverse_below p (c l) p)) * times_label r c (unit_form r (lowered l e)) m)
 
 abbrev pub normal_by : ℕ → ℕ → ℕ → (ℕ → ℕ) → ℕ → Form → Form
 normal_by p r l c d a = pass p r l c d a (count r d)

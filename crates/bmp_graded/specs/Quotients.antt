@@ -29,7 +29,8 @@ abbrev pub pure_form : ℕ → ℕ → (ℕ → ℕ) → Form
 pure_form r l v e = cond (eqb (slice_index e l) 0) (v (place r (remove l e))) 0
 
 unfoldable pub reduced : ℕ → ℕ → (ℕ → Form → Form) → Graded
-reduced r l normal = record { dim = count r; act = λ m d t v i. normal t (shift m (pure_form r l v)) (insert l (exponents 5 r t i)) }
+reduced r l normal =
+    record { dim = count r; act = λ m d t v i. normal t (shift m (pure_form r l v)) (insert l (exponents 5 r t i)) }
 
 abbrev pub quotient : ℕ → ℕ → ℕ → (ℕ → ℕ) → List ℕ → Graded
 quotient p r l c gs = copies (reduced r l (normal_by p (suc r) l c)) gs

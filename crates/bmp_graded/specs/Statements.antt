@@ -9,8 +9,8 @@
 --   MapsAreDetermined                 module maps from a free module that agree on the generators are the same
 --   QuotientEqualityIsDivisibility    elements are equal in the quotient exactly where the linear form divides each
 --                                     component of their difference
---   LineModuloItsVariable             the free module in one variable over two elements with generators of degrees 0 and 1,
---                                     modulo the variable, has dimensions 1, 1 and 0 in degrees 0, 1 and 2
+--   LineModuloItsVariable             the free module in one variable over two elements with generators of degrees 0
+--                                     and 1, modulo the variable, has dimensions 1, 1 and 0 in degrees 0, 1 and 2
 use Rattle.std.specs.Prelude.{◌≡◌, [], ◌∷◌, ◌↔◌, ℕ, ◌-◌, ◌<◌, ◌≤◌, List, length, slice_index}
 use Rattle.std.specs.List.{All}
 use Rattle.bmp_math.specs.Vectors.{SameVector}
@@ -57,7 +57,8 @@ abbrev pub MapsAreDetermined : Type 0
 MapsAreDetermined = (p r : ℕ) (M : Graded) (degrees : List ℕ) (map map' : ℕ → (ℕ → ℕ) → ℕ → ℕ) (v : ℕ → ℕ → ℕ)
     → r ≤ 6 → IsModule p r M → IsModuleMap p r (free r degrees) M map → IsModuleMap p r (free r degrees) M map'
     → ((g : ℕ) → g < length degrees → IsGenerator r degrees g (v g)
-    × SameVector p (M.dim (slice_index degrees g)) (map (slice_index degrees g) (v g)) (map' (slice_index degrees g) (v g)))
+    × SameVector p (M.dim (slice_index degrees g)) (map (slice_index degrees g) (v g))
+        (map' (slice_index degrees g) (v g)))
     → (d : ℕ) (u : ℕ → ℕ) → SameVector p (M.dim d) (map d u) (map' d u)
 
 abbrev pub QuotientEqualityIsDivisibility : Type 0

@@ -60,7 +60,8 @@ row_and_minus p (e ∷ es) u below =
     let third = sum_by-cons (λ (n : Entry). u n.place) e es in
     both_more p e.value (p - e.value) (u e.place) sums minus places first second third later whole
   where
-    both_more : (q v w n a b m : ℕ) {x y z : ℕ} → x ≡ v * n + a → y ≡ w * n + b → z ≡ n + m → a + b ≡ q * m → v + w ≡ q →
+    both_more : (q v w n a b m : ℕ) {x y z : ℕ} → x ≡ v * n + a → y ≡ w * n + b → z ≡ n + m → a + b ≡ q * m →
+        v + w ≡ q →
         x + y ≡ q * z
     both_more q v w n a b m {x = x} {y = y} {z = z} is_x is_y is_z later whole =
         omega (arith, is_x, is_y, ap (λ t. q * t) is_z, later, ap (λ t. t * n) whole)
@@ -76,7 +77,8 @@ rows_same p low_row high_row u v start first last below is_start is_first is_las
     let minus : ℕ = signed_sum true p low_row u in
     let high : ℕ = sum_by (λ e. e.value * v e.place) high_row in
     let places : ℕ = sum_by (λ e. u e.place) low_row in
-    let both : sum_by (λ e. e.value * u e.place) low_row + signed_sum true p low_row u ≡ p * sum_by (λ e. u e.place) low_row =
+    let both : sum_by (λ e. e.value * u e.place) low_row + signed_sum true p low_row u
+        ≡ p * sum_by (λ e. u e.place) low_row =
     row_and_minus p low_row u below in
     let begun : first % p ≡ sum_by (λ e. e.value * v e.place) high_row % p =
     is_first ∙ ap (λ z. z % p) (nothing_before start (signed_sum false p high_row v) is_start) in
@@ -183,7 +185,8 @@ agreeing_covers G over F x d list e wide agree values r c =
     let j = r.index in
     let cover = element_of G.rank (F.degrees x) d (vector_at e.covers r.index) in
     let own = tuples_in G F d list r.index x in
-    let same : SameElement G.prime G.rank (F.degrees x) d (element_of G.rank (F.degrees x) d (vector_at e.covers r.index))
+    let same : SameElement G.prime G.rank (F.degrees x) d
+        (element_of G.rank (F.degrees x) d (vector_at e.covers r.index))
     (tuples_in G F d list r.index x) =
     element_respects G.prime G.rank (F.degrees x) d (vector_at e.covers j) (list.value j x) wide
     (λ k below. ap (λ z. z % G.prime) (sym (values j k c.tuple below))) in
@@ -191,7 +194,8 @@ agreeing_covers G over F x d list e wide agree values r c =
     ∙ boundary_number_respects G F x d over (boundary_of_element G F d cover) (boundary_of_element G F d own)
     (λ f is_edge starts.
     lift_same G F f d cover own wide
-    (subst (λ y. SameElement G.prime G.rank (F.degrees y) d (element_of G.rank (F.degrees x) d (vector_at e.covers r.index))
+    (subst (λ y. SameElement G.prime G.rank (F.degrees y) d
+        (element_of G.rank (F.degrees x) d (vector_at e.covers r.index))
     (tuples_in G F d list r.index x)) (sym starts) same))
     r.place c.place
     ∙ agree j r.place c.tuple c.place

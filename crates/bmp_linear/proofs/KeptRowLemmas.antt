@@ -47,7 +47,8 @@ module _ (cols : ℕ) {kept : Kept} {r : List ℕ} {row : SmallVec Entry} {es : 
   entries_columns = sym (spread-length cols es) ∙ ap length entries_spread
 
   pub entries_same : (j : ℕ) → j < length r → number_at es j ≡ get_or r j 0
-  entries_same j l = sym (spread-at cols es j (rw entries_columns l)) ∙ ap (λ (xs : List ℕ). get_or xs j 0) entries_spread
+  entries_same j l = sym (spread-at cols es j (rw entries_columns l))
+      ∙ ap (λ (xs : List ℕ). get_or xs j 0) entries_spread
 
   pub entries_kept : {p : ℕ} → (cols < 4294967296) × KeepsRow cols kept → AreBelow p r → AreEntriesOf p r es
   entries_kept {p} invariant below =
@@ -78,7 +79,8 @@ pub added_row : {p c : ℕ} {es : List Entry} {old new : List ℕ} → length ne
     AddsEntries p c es old new → IsRowSum p c old (number_at es) new
 added_row sized below adds = record { length_is = sized; summed = λ j l. adds.added j (below j l) }
 
-pub entries_added : {p c : ℕ} {r : List ℕ} {es : List Entry} {old new : List ℕ} → AreEntriesOf p r es → length old ≡ length r →
+pub entries_added : {p c : ℕ} {r : List ℕ} {es : List Entry} {old new : List ℕ} → AreEntriesOf p r es →
+    length old ≡ length r →
     length new ≡ length old → AreBelow p old → AddsEntries p c es old new → IsRowSum p c old (slice_index r) new
 entries_added {p} {c} {r} {es} {old} entries as_many sized below adds =
     sum_as (number_at es) (slice_index r) (λ j l. entries.same j (rw (← as_many) l)) (added_row sized below adds)
@@ -103,7 +105,8 @@ spread_sum n p c {r} {es} {more} {w} seen sum = record {
 }
 
 pub sum_kept : (n p c : ℕ) {r : List ℕ} {es more w : List Entry} → n ≡ length r → AreEntriesOf p r es →
-    FitsBelow more (length r) → IsEntrySum p c es more w → n < 4294967296 → (n < 4294967296) × (IsSparse w × FitsBelow w n)
+    FitsBelow more (length r) → IsEntrySum p c es more w → n < 4294967296 → (n < 4294967296) ×
+        (IsSparse w × FitsBelow w n)
 sum_kept n p c {r} {es} {more} {w} columns entries fits sum limit = (
   limit,
   (sum.sparse, subst (FitsBelow w) (sym columns) (sum_fits p c (length r) es more w entries.fits fits sum)),
@@ -161,7 +164,8 @@ cut_from at n list k l = get_or-take n (drop at list) k 0 l ∙ get_or-drop at l
 -- numbers that were added from a place on, before which there are none
 pub sum_behind : (p c start : ℕ) (more : List ℕ) {old new into : List ℕ} → length new ≡ length old →
     length more ≡ length old → ((j : ℕ) → j < start → get_or more j 0 ≡ 0) → AreBelow p old →
-    IsMultipleAdded p c (take (length more - start) (drop start more)) (take (length old - start) (drop start old)) into →
+    IsMultipleAdded p c (take (length more - start) (drop start more)) (take (length old - start) (drop start old)) into
+        →
     ((j : ℕ) → j < start → get_or new j 0 ≡ get_or old j 0) →
     ((k : ℕ) → k < length into → get_or new (start + k) 0 ≡ get_or into k 0) →
     IsRowSum p c old (slice_index more) new
@@ -179,7 +183,8 @@ sum_behind p c start more {old} {new} {into} sized as_many zero below added befo
         let all : length (drop start old) ≡ length old - start = length-drop start old in
         let count : length (take (length old - start) (drop start old)) ≡ length old - start =
         length-take-le (length old - start) (drop start old) (omega arith) in
-        ap (λ m. get_or new m 0) (sym at) ∙ from k (omega (arith, inside, count, added.length_is)) ∙ added.added k (omega (arith, inside, count))
+        ap (λ m. get_or new m 0) (sym at) ∙ from k (omega (arith, inside, count, added.length_is))
+            ∙ added.added k (omega (arith, inside, count))
         ∙ ap₂ (λ x y. (x + c * y) % p)
         (cut_from start (length old - start) old k inside ∙ ap (λ m. get_or old m 0) at)
         (cut_from start (length more - start) more k (omega arith) ∙ ap (λ m. get_or more m 0) at)
@@ -191,7 +196,8 @@ module _ (p f : ℕ) (more ts : List ℕ) (sized : length ts ≡ p * length more
   where
     pub multiple_room : f * length more + length more ≤ length ts
     multiple_room =
-        let ends : f * length more + length more ≤ p * length more = row_ends f p (length more) l in omega (arith, ends, sized)
+        let ends : f * length more + length more ≤ p * length more = row_ends f p (length more) l in
+            omega (arith, ends, sized)
 
     abbrev multiple : List ℕ
     multiple = take (f * length more + length more - f * length more) (drop (f * length more) ts)

@@ -26,8 +26,11 @@ module _ {E : Type 0} (P : ℕ → E → Type 0) where
       record {
         sized = omega arith;
         each = λ i e l. elim (cases_eq i k) [
-          | inl here ↦ let at : get_or (es ++ x ∷ []) (length es) e ≡ x = get_or-append_seam es x [] e in let there : get_or (es ++ x ∷ []) i e ≡ x = ap (λ z. get_or (es ++ x ∷ []) z e) (here ∙ sym sized) ∙ at in subst (P i) (sym there) (subst (λ z. P z x) (sym here) p)
-          | inr other ↦ let before : i < length es = omega arith in subst (P i) (sym (get_or_append_left es (x ∷ []) e i before)) (h.each i e (omega arith))
+          | inl here ↦ let at : get_or (es ++ x ∷ []) (length es) e ≡ x = get_or-append_seam es x [] e in
+              let there : get_or (es ++ x ∷ []) i e ≡ x = ap (λ z. get_or (es ++ x ∷ []) z e) (here ∙ sym sized) ∙ at in
+              subst (P i) (sym there) (subst (λ z. P z x) (sym here) p)
+          | inr other ↦ let before : i < length es = omega arith in
+              subst (P i) (sym (get_or_append_left es (x ∷ []) e i before)) (h.each i e (omega arith))
         ];
       }
 

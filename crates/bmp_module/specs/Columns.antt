@@ -1,8 +1,9 @@
 -- Matrices of maps, column after column. In the order to read:
---   HasColumns rows n number old new   new is old and behind it n columns, each of as many numbers as there are rows: the number in
---                                      row i of column j is number j i
+--   HasColumns rows n number old new   new is old and behind it n columns, each of as many numbers as there are rows:
+--                                      the number in row i of column j is number j i
 --   HasColumnsOf a numbers             the numbers are those of the matrix a
---   matrix_of_map p A B map d          what the map from A to B does in degree d: a row for each coordinate of B, a column for each of A
+--   matrix_of_map p A B map d          what the map from A to B does in degree d: a row for each coordinate of B, a
+--                                      column for each of A
 use Rattle.std.specs.Prelude.{◌≡◌, ℕ, ◌+◌, ◌*◌, ◌%◌, ◌<◌, List, [], length, slice_index}
 use Rattle.bmp_math.specs.Vectors.{unit}
 use Rattle.bmp_math.specs.Matrices.{Matrix}

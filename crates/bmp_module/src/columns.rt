@@ -33,7 +33,8 @@ fn push_coordinates<F: Field, N: GradedModule<F>>(
     Ok(())
 }
 
-/// Appends a column for each monomial that a generator of the image's degree has in degree `d`: the monomial times the image.
+/// Appends a column for each monomial that a generator of the image's degree has in degree `d`: the monomial times the
+/// image.
 fn push_multiples<F: Field, N: GradedModule<F>>(
     alloc: Global,
     f: &F,
@@ -51,7 +52,8 @@ fn push_multiples<F: Field, N: GradedModule<F>>(
     requires small { (N.graded over.now).dim d < 2 ^ 64 }
     ensures { let a = N.degree over.now image.now in
         OnOk result (HasColumns ((N.graded over.now).dim d) ((moved a (polynomials rank)).dim d)
-        (λ j i. (N.graded over.now).act (exponents 6 rank (d - a) j) a d (N.coordinate over.now f.now image.now) i % F.size f.now)
+        (λ j i. (N.graded over.now).act (exponents 6 rank (d - a) j) a d (N.coordinate over.now f.now image.now) i
+            % F.size f.now)
         columns.old.items columns.new.items) }
 {
     let a = over.degree(image);
@@ -77,7 +79,8 @@ impl<'a, F: Field, N: GradedModule<F>> Linear<'a, F, N> {
         requires small { (N.graded self.now.into.now).dim d < 2 ^ 64 }
         ensures { let M = N.graded self.now.into.now in let gs = self.now.from.now.degrees.items in
             IfOk result (λ columns. HasColumnsOf (matrix_of_map (F.size f.now) (free self.now.from.now.rank gs) M
-            (extension self.now.from.now.rank M gs (image_coordinates (N.coordinate self.now.into.now f.now) self.now.images.now)) d)
+            (extension self.now.from.now.rank M gs
+                (image_coordinates (N.coordinate self.now.into.now f.now) self.now.images.now)) d)
             columns.items) }
     {
         let mut columns = Vec::new(alloc);

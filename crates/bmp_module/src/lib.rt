@@ -1,8 +1,8 @@
 //! Graded modules over the polynomials, and maps between them.
 //!
 //! [`GradedModule`] and [`ModuleMap`] say what a graded module and a map of graded modules are. [`Free`], [`Quotient`],
-//! [`TabledQuotient`] and [`Tuple`] are modules, [`Projection`] and [`Linear`] maps; [`Linear::columns`] is the matrix of a
-//! map into any module. The degree of a variable is 1, and no degree passes 6.
+//! [`TabledQuotient`] and [`Tuple`] are modules, [`Projection`] and [`Linear`] maps; [`Linear::columns`] is the matrix
+//! of a map into any module. The degree of a variable is 1, and no degree passes 6.
 #![tactic(auto)]
 
 mod blocks;

@@ -27,8 +27,8 @@ pub struct Linear<'a, F: Field, N: GradedModule<F>> {
 }
 
 impl<'a, F: Field, N: GradedModule<F>> Linear<'a, F, N> {
-    /// The map with these images. Each is to be an element of `into` of its generator's degree, and `into` a module over
-    /// the variables of `from`, maybe over more. Takes no memory.
+    /// The map with these images. Each is to be an element of `into` of its generator's degree, and `into` a module
+    /// over the variables of `from`, maybe over more. Takes no memory.
     pub fn new(from: &'a Free, into: &'a N, images: &'a [N::Elem]) -> Linear<'a, F, N>
         ensures from { result.from.now ≡ from.now }
         ensures into { result.into.now ≡ into.now }

@@ -36,8 +36,8 @@ impl<'a> Projection<'a> {
         Projection { quotient }
     }
 
-    /// Whether two elements of the free module, of one degree, are equal in the quotient: the label divides each component
-    /// of their difference.
+    /// Whether two elements of the free module, of one degree, are equal in the quotient: the label divides each
+    /// component of their difference.
     pub fn same<F: Field>(
         &self,
         alloc: Global,
@@ -52,7 +52,8 @@ impl<'a> Projection<'a> {
             IsElement (F.is_value f.now) (free (free_rank_of s) (degrees_of s)) b.now.degree b.now.numbers.items }
         requires degree { a.now.degree ≡ b.now.degree }
         ensures { let x = label_of (quotient_of self.now) in IfOk result (λ same. IsTrue same ↔
-            IsSameModulo (prime_of x) (rank_of x) (coordinate_of x) (degrees_of (free_of (quotient_of self.now))) a.now.degree
+            IsSameModulo (prime_of x) (rank_of x) (coordinate_of x) (degrees_of (free_of (quotient_of self.now)))
+                a.now.degree
             (coefficient (F.num f.now) a.now.numbers.items) (coefficient (F.num f.now) b.now.numbers.items)) }
     {
         let first = self.apply(alloc, f, a)?;
@@ -70,7 +71,8 @@ impl<'a, F: Field> ModuleMap<F, Free, Quotient> for Projection<'a> {
 
     ghost into = { λ s. s.quotient.now };
 
-    ghost map = { λ s f. projection s.quotient.now.label.prime (s.quotient.now.label.rank - 1) s.quotient.now.label.leading
+    ghost map = { λ s f. projection s.quotient.now.label.prime (s.quotient.now.label.rank - 1)
+        s.quotient.now.label.leading
         (slice_index s.quotient.now.label.coords) s.quotient.now.free.degrees.items };
 
     ghost is_map = { λ s f. F.size f ≡ s.quotient.now.label.prime };

@@ -69,7 +69,8 @@ impl<F: Field> GradedModule<F> for Quotient {
     ghost use Rattle.bmp_graded.proofs.PassLaws.{quotient_over};
     ghost use Rattle.bmp_field.specs.FieldLaws.{FieldLaws};
 
-    ghost graded = { λ s. quotient s.label.prime (s.label.rank - 1) s.label.leading (slice_index s.label.coords) s.free.degrees.items };
+    ghost graded = { λ s. quotient s.label.prime (s.label.rank - 1) s.label.leading (slice_index s.label.coords)
+        s.free.degrees.items };
 
     ghost rank = { λ s. s.label.rank };
 

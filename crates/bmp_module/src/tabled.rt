@@ -171,7 +171,8 @@ pub(crate) fn act_by_table<F: Field>(
 
 /// A quotient with a table of its label's normal forms, by which monomials act faster.
 ///
-/// It is the module that the quotient is, with the same elements. Past the table's degrees it acts as the quotient does.
+/// It is the module that the quotient is, with the same elements. Past the table's degrees it acts as the quotient
+/// does.
 #[derive(Drop)]
 pub struct TabledQuotient<'a> {
     quotient: &'a Quotient,
@@ -196,7 +197,8 @@ impl<F: Field> GradedModule<F> for TabledQuotient<'_> {
     ghost use Rattle.bmp_graded.proofs.PassLaws.{quotient_over};
     ghost use Rattle.bmp_field.specs.FieldLaws.{FieldLaws};
 
-    ghost graded = { λ s. quotient s.quotient.now.label.prime (s.quotient.now.label.rank - 1) s.quotient.now.label.leading
+    ghost graded = { λ s. quotient s.quotient.now.label.prime (s.quotient.now.label.rank - 1)
+        s.quotient.now.label.leading
         (slice_index s.quotient.now.label.coords) s.quotient.now.free.degrees.items };
 
     ghost rank = { λ s. s.quotient.now.label.rank };

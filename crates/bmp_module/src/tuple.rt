@@ -61,7 +61,8 @@ impl<F: Field, M: GradedModule<F> + Drop> GradedModule<F> for Tuple<M> {
 
     ghost degree = { λ s e. e.degree };
 
-    ghost coordinate = { λ s f e. joined_coordinates (λ m. (M.graded m).dim e.degree) (λ m a. M.coordinate m f a) s.parts.items
+    ghost coordinate =
+        { λ s f e. joined_coordinates (λ m. (M.graded m).dim e.degree) (λ m a. M.coordinate m f a) s.parts.items
         e.parts.items };
 
     fn dim(&self, d: u32) -> u64 {
@@ -136,7 +137,8 @@ impl<F: Field, M: GradedModule<F> + Drop> GradedModule<F> for Tuple<M> {
 
     ghost small = { λ s f e is. is.small };
 
-    ghost numbers = { λ s f e is. tuple_numbers (λ m a. M.is_element m f a) M.degree M.graded (λ m a. M.coordinate m f a) (F.size f)
+    ghost numbers = { λ s f e is. tuple_numbers (λ m a. M.is_element m f a) M.degree M.graded
+        (λ m a. M.coordinate m f a) (F.size f)
         e.degree s.parts.items e.parts.items (λ m a. M.numbers m f a) is };
 
     ghost laws = { λ s f fits. tuple_laws (λ m. M.fits m (F.size f)) M.rank M.graded (F.size f) s.parts.items

@@ -5,7 +5,8 @@ use Rattle.bmp_sheaf.proofs.ModuleLemmas.{free_count}
 use Rattle.bmp_check.proofs.CountBounds.{stalk_start_small, stalk_start_smaller}
 use Rattle.bmp_check.proofs.counts.stalk_size.Goals as goal
 
-counted : (r d size : ℕ) (degrees items : List ℕ) → items ≡ degrees → size ≡ (free r items).dim d → size ≡ stalk_count r degrees d
+counted : (r d size : ℕ) (degrees items : List ℕ) → items ≡ degrees → size ≡ (free r items).dim d →
+    size ≡ stalk_count r degrees d
 counted r d size degrees items same is = is ∙ ap (λ (gs : List ℕ). (free r gs).dim d) same ∙ free_count r d degrees
 
 pub returns-clause-number : goal.returns-clause-number

@@ -5,4 +5,5 @@ use Rattle.bmp_module.proofs.coordinates.unit.Given as goal
 
 -- the values so far
 abbrev pub invariant-loop-i : goal.invariant-loop-i
-invariant-loop-i g l = IsAppended (g.F.Field.is_value l.fn.f) (g.F.Field.num l.fn.f) [] l.values.items l.i (unit l.fn.place)
+invariant-loop-i g l =
+    IsAppended (g.F.Field.is_value l.fn.f) (g.F.Field.num l.fn.f) [] l.values.items l.i (unit l.fn.place)

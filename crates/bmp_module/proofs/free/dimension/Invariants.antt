@@ -6,4 +6,6 @@ use Rattle.bmp_module.proofs.free.dimension.Given as goal
 
 -- what is counted so far, and what the other generators give
 abbrev pub invariant-loop-g : goal.invariant-loop-g
-invariant-loop-g l = total (block_dim (polynomials l.rank) l.d) l.degrees ≡ l.dim + total (block_dim (polynomials l.rank) l.d) (drop l.g-index l.degrees)
+invariant-loop-g l =
+    total (block_dim (polynomials l.rank) l.d) l.degrees ≡ l.dim + total (block_dim (polynomials l.rank) l.d)
+    (drop l.g-index l.degrees)

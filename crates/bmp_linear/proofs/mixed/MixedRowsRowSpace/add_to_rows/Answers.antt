@@ -41,7 +41,8 @@ returns-clause-ok g c =
     c.replace-chosen.result below pivot c.self.invariant.2 mid _
     (with_items_is (with_item c.self.inside.rows c.args.from c.replace-chosen.new.dest) mid (search (rules, places)))
     (c.add_to_each-added.ensures.count ∙ ap length value) p factor
-    (subst (λ xs. AreRowsSummedBelow (length xs) p c.args.from factor (slice_index c.replace-chosen.result) xs mid) value
+    (subst (λ xs. AreRowsSummedBelow (length xs) p c.args.from factor (slice_index c.replace-chosen.result) xs mid)
+        value
     summed))
     c.add_to_each-added.ensures.ok
 
@@ -63,9 +64,11 @@ invariant_of-self g c =
     let mid = c.add_to_each-added.new.rows in
     let same = with_items_is (with_item c.self.inside.rows c.args.from c.replace-chosen.new.dest) mid
     (search (rules, places)) in
-    subst (λ (xs : List (List ℕ)). (length (set xs c.args.from c.replace-chosen.result) < 4294967296) × (cols < 4294967296)
+    subst (λ (xs : List (List ℕ)). (length (set xs c.args.from c.replace-chosen.result) < 4294967296) ×
+        (cols < 4294967296)
     × HaveLength cols (set xs c.args.from c.replace-chosen.result)) (sym same)
-    (table_back c.args.self.now cols rows c.self.view_is c.args.from c.replace-chosen.new.dest c.replace-chosen.result below
+    (table_back c.args.self.now cols rows c.self.view_is c.args.from c.replace-chosen.new.dest c.replace-chosen.result
+        below
     pivot c.self.invariant.2 mid
     (c.add_to_each-added.ensures.count ∙ ap length c.as_mut_slice-rows.ensures.value
     ∙ length-set rows c.args.from c.replace-chosen.new.dest)
