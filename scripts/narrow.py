@@ -1,6 +1,7 @@
 #!/usr/bin/env python3
-"""Breaks the lines of sources, specs and proofs that are wider than 120 columns, imports apart. With --check it only names
-them, and those of the documents, tables apart, and ends with 1 where there is one.
+"""Breaks the lines of sources, specs and proofs that are wider than 120 columns, imports apart and attributes that name
+lemmas by their paths, which `rt fmt` keeps on one line. With --check it only names them, and those of the documents,
+tables apart, and ends with 1 where there is one.
 
 Usage: scripts/narrow.py [--check] [FILE ..]     (those of crates/, and of the documents, where none is given)
 
@@ -100,7 +101,7 @@ def wrapped_doc(line, below):
 
 
 def is_wide(line):
-    return len(line) > WIDTH and not line.lstrip().startswith(("use ", "pub use ", "ghost use "))
+    return len(line) > WIDTH and not line.lstrip().startswith(("use ", "pub use ", "ghost use ", "#[tactic("))
 
 
 def narrowed(lines):

@@ -205,7 +205,7 @@ module _ {A : Type 0} {G : Graph} {D k : ℕ} {s : SheafState A} {parts : List V
         | inl short ↦ short
         | inr long ↦ absurd
             (let there = h.there (vertex_count G - 1 - length parts) (omega (arith, left))
-                (omega (arith, long, next)) in
+            (omega (arith, long, next)) in
             omega (arith, there, left))
       ]
 

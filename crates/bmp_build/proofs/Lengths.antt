@@ -256,7 +256,7 @@ module _ {A : Type 0} {P : SheafState A → SheafState A → VertexPart → Type
 pub last_over : {A : Type 0} {P : SheafState A → SheafState A → VertexPart → Type 0} {k : ℕ} {s : SheafState A}
     {all : List (Made A)} (rest : List (Made A)) {last made : Made A} → IsLengthMade P k s all →
     all ≡ rest ++ last ∷ [] → made ≡ last → (length s.stalks < vertex_count s.graph) ×
-        IsMadeOver P k s (next_vertex s) made
+    IsMadeOver P k s (next_vertex s) made
 last_over {P = P} {k = k} {s = s} {all = all} rest {last = last} {made = made} h popped seen =
     let few = h.over.few in
     let count : length all ≡ length rest + 1 = ap length popped ∙ length_push rest last in

@@ -143,7 +143,7 @@ module _ {F : Type 0} {s : SheafState F} {v : ℕ} {c : Written} {before count :
   -- all of them, by their numbers
   pub bring_all : {all : List (SheafState F)} → length all ≡ count →
       ((i : ℕ) (d : SheafState F) → i < length all → i < count → HasAdded c s (before + count - 1 - i) (get_or all i d))
-          →
+      →
       BringStalks s.graph c before all
   bring_all {all} counted added =
       let sum = h.counted in

@@ -119,8 +119,8 @@ pub(crate) fn add_stalks(
     requires none { length sheaf.old.stalks ≡ 0 }
     requires degree { sheaf.old.degree ≡ given.now.degree }
     requires workers { (1 ≤ workers) × (workers ≤ 32) }
-    ensures { OnOk result (IsSheafUpTo sheaf.old.graph (written_in given.now) (vertex_count sheaf.old.graph) sheaf.new)
-        }
+    ensures { OnOk result
+        (IsSheafUpTo sheaf.old.graph (written_in given.now) (vertex_count sheaf.old.graph) sheaf.new) }
 {
     let vertices = sheaf.graph().vertices();
     'lengths: while sheaf.pushed() < vertices {

@@ -21,7 +21,7 @@ component_at r d zero (g ∷ gs) v m inside = let same : 0 + place r m ≡ place
 component_at r d (suc h) (g ∷ gs) v m inside =
     let below : suc h < suc (length gs) = inside in
     let same : (moved g (polynomials r)).dim d + (start_of r gs d h + place r m)
-        ≡ ((moved g (polynomials r)).dim d + start_of r gs d h) + place r m = omega arith in
+    ≡ ((moved g (polynomials r)).dim d + start_of r gs d h) + place r m = omega arith in
     component_at r d h gs (λ i. v ((moved g (polynomials r)).dim d + i)) m (omega arith) ∙ ap v same
 
 pub count_none : (r : ℕ) → count r 0 ≡ 1
@@ -37,20 +37,20 @@ pub generator_is : (r g : ℕ) (gs : List ℕ) (v : ℕ → ℕ) → r ≤ 6 →
 generator_is r g gs v wide inside one others h m here le is =
     let n = block_dim (polynomials r) (get_or gs g 0) in
     let block : (moved (get_or gs h 0) (polynomials r)).dim (get_or gs g 0) ≡ count r (get_or gs g 0 - get_or gs h 0) =
-        moved_dim (polynomials r) (get_or gs h 0) (get_or gs g 0) le
-        ∙ polynomials_dim r (get_or gs g 0 - get_or gs h 0) in
+    moved_dim (polynomials r) (get_or gs h 0) (get_or gs g 0) le
+    ∙ polynomials_dim r (get_or gs g 0 - get_or gs h 0) in
     let below : place r m < count r (get_or gs g 0 - get_or gs h 0) =
-        place_below 6 r (get_or gs g 0 - get_or gs h 0) m wide is in
+    place_below 6 r (get_or gs g 0 - get_or gs h 0) m wide is in
     component_at r (get_or gs g 0) h gs v m here
     ∙ elim (cases_eq h g) [
       | inl same ↦
           let none : get_or gs g 0 - get_or gs h 0 ≡ 0 = let at : get_or gs h 0 ≡ get_or gs g 0 =
-              ap (λ z. get_or gs z 0) same in omega arith in
+          ap (λ z. get_or gs z 0) same in omega arith in
           let first : place r m ≡ 0 = let few : count r (get_or gs g 0 - get_or gs h 0) ≡ 1 =
-              ap (count r) none ∙ count_none r in omega arith in
+          ap (count r) none ∙ count_none r in omega arith in
           let there : start_of r gs (get_or gs g 0) h + place r m ≡ start_of r gs (get_or gs g 0) g =
-              let at : start_of r gs (get_or gs g 0) h ≡ start_of r gs (get_or gs g 0) g =
-              ap (start_of r gs (get_or gs g 0)) same in omega arith in
+          let at : start_of r gs (get_or gs g 0) h ≡ start_of r gs (get_or gs g 0) g =
+          ap (start_of r gs (get_or gs g 0)) same in omega arith in
           ap v there ∙ one ∙ sym (cond-true {A = ℕ} (eqb h g) 1 0 (eq-eqb h g same))
       | inr other ↦
           others (start_of r gs (get_or gs g 0) h + place r m)
@@ -59,11 +59,11 @@ generator_is r g gs v wide inside one others h m here le is =
                 total_apart n gs h g 0 before (omega arith) in absurd (omega arith)
             | inr after ↦ λ e.
                 let apart : total n (take g gs) + n (get_or gs g 0) ≤ total n (take h gs) =
-                    total_apart n gs g h 0 (omega arith) (omega arith) in
+                total_apart n gs g h 0 (omega arith) (omega arith) in
                 let none : get_or gs g 0 - get_or gs g 0 ≡ 0 = omega arith in
                 let own : n (get_or gs g 0) ≡ 1 =
-                    moved_dim (polynomials r) (get_or gs g 0) (get_or gs g 0) (omega arith)
-                    ∙ polynomials_dim r (get_or gs g 0 - get_or gs g 0) ∙ ap (count r) none ∙ count_none r in
+                moved_dim (polynomials r) (get_or gs g 0) (get_or gs g 0) (omega arith)
+                ∙ polynomials_dim r (get_or gs g 0 - get_or gs g 0) ∙ ap (count r) none ∙ count_none r in
                 absurd (omega arith)
           ])
           ∙ sym (cond-false {A = ℕ} (eqb h g) 1 0 (ne_eqb h g other))
@@ -76,8 +76,12 @@ start_more r d h gs inside = total_taken (block_dim (polynomials r) d) gs h 0 in
 pub start_inside : (r d g : ℕ) (gs : List ℕ) → g < length gs →
     start_of r gs d g + (moved (get_or gs g 0) (polynomials r)).dim d ≤ (free r gs).dim d
 start_inside r d g gs inside =
-    omega (arith, total_apart (block_dim (polynomials r) d) gs g (length gs) 0 inside (omega arith),
-    total_front (block_dim (polynomials r) d) gs, copies_dim (polynomials r) d gs)
+    omega (
+      arith,
+      total_apart (block_dim (polynomials r) d) gs g (length gs) 0 inside (omega arith),
+      total_front (block_dim (polynomials r) d) gs,
+      copies_dim (polynomials r) d gs,
+    )
 
 -- a generator has one coordinate in its own degree
 pub own_block : (r g : ℕ) → (moved g (polynomials r)).dim g ≡ 1

@@ -20,7 +20,7 @@ module _ (p n m : ℕ) (x y z w : ℕ → ℕ) where
   split_first h j l =
       let on : ltb j n ≡ true = lt-ltb j n l in
       ap (λ a. a % p) (sym (cond-true {A = ℕ} (ltb j n) (x j) (z (j - n)) on)) ∙ h j (omega arith)
-          ∙ ap (λ a. a % p) (cond-true {A = ℕ} (ltb j n) (y j) (w (j - n)) on)
+      ∙ ap (λ a. a % p) (cond-true {A = ℕ} (ltb j n) (y j) (w (j - n)) on)
 
   pub split_second :
       SameVector p (n + m) (λ j. cond (ltb j n) (x j) (z (j - n))) (λ j. cond (ltb j n) (y j) (w (j - n))) →
@@ -29,8 +29,8 @@ module _ (p n m : ℕ) (x y z w : ℕ → ℕ) where
       let off : ltb (n + j) n ≡ false = le-ltb (n + j) n (omega arith) in
       let back : (n + j) - n ≡ j = omega arith in
       ap (λ a. a % p) (sym (cond-false {A = ℕ} (ltb (n + j) n) (x (n + j)) (z ((n + j) - n)) off ∙ ap z back))
-          ∙ h (n + j) (omega arith)
-          ∙ ap (λ a. a % p) (cond-false {A = ℕ} (ltb (n + j) n) (y (n + j)) (w ((n + j) - n)) off ∙ ap w back)
+      ∙ h (n + j) (omega arith)
+      ∙ ap (λ a. a % p) (cond-false {A = ℕ} (ltb (n + j) n) (y (n + j)) (w ((n + j) - n)) off ∙ ap w back)
 
   pub join_same : SameVector p n x y → SameVector p m z w → SameVector p (n + m) (λ j. cond (ltb j n) (x j) (z (j - n)))
       (λ j. cond (ltb j n) (y j) (w (j - n)))
@@ -54,17 +54,17 @@ module _ (q r l : ℕ) (c : ℕ → ℕ) (label : IsLabel (suc q) (suc r) c l) (
       let v' : ℕ → ℕ = λ i. v ((moved g (polynomials (suc r))).dim d + i) in
       let from : g ≤ d = le in
       let first = split_first (suc q) (cond (leb g d) (count r (d - g)) 0) ((quotient (suc q) r l c gs).dim d)
-          (normal_at (d - g) u) (normal_at (d - g) v) (projection (suc q) r l c gs d u')
-          (projection (suc q) r l c gs d v') same in
+      (normal_at (d - g) u) (normal_at (d - g) v) (projection (suc q) r l c gs d u')
+      (projection (suc q) r l c gs d v') same in
       projected_congruent q r l c label wide (normal_by (suc q) (suc r) l c) (normal_by_is q r l c label wide one)
-          (d - g) u v (λ i b. let on : leb g d ≡ true = le-leb g d from in first i (rw on b))
+      (d - g) u v (λ i b. let on : leb g d ≡ true = le-leb g d from in first i (rw on b))
   same_congruent (g ∷ gs) d u v same (suc h) inside le =
       let u' : ℕ → ℕ = λ i. u ((moved g (polynomials (suc r))).dim d + i) in
       let v' : ℕ → ℕ = λ i. v ((moved g (polynomials (suc r))).dim d + i) in
       let below : suc h < suc (length gs) = inside in
       let second = split_second (suc q) (cond (leb g d) (count r (d - g)) 0) ((quotient (suc q) r l c gs).dim d)
-          (normal_at (d - g) u) (normal_at (d - g) v) (projection (suc q) r l c gs d u')
-          (projection (suc q) r l c gs d v') same in
+      (normal_at (d - g) u) (normal_at (d - g) v) (projection (suc q) r l c gs d u')
+      (projection (suc q) r l c gs d v') same in
       same_congruent gs d u' v' second h (omega arith) le
 
   congruent_same : (degrees : List ℕ) (d : ℕ) (u v : ℕ → ℕ) → IsSameModulo (suc q) (suc r) c degrees d u v →
@@ -77,7 +77,7 @@ module _ (q r l : ℕ) (c : ℕ → ℕ) (label : IsLabel (suc q) (suc r) c l) (
       let v' : ℕ → ℕ = λ i. v ((moved g (polynomials (suc r))).dim d + i) in
       let some : 0 < suc (length gs) = omega arith in
       join_same (suc q) (cond (leb g d) (count r (d - g)) 0) ((quotient (suc q) r l c gs).dim d) (normal_at (d - g) u)
-          (normal_at (d - g) v) (projection (suc q) r l c gs d u') (projection (suc q) r l c gs d v')
+      (normal_at (d - g) v) (projection (suc q) r l c gs d u') (projection (suc q) r l c gs d v')
       (λ i b. elim (cases_lt d g) [
         | inl before ↦ absurd (let off : leb g d ≡ false = lt-leb g d before in let none = rw off at b in omega arith)
         | inr from ↦ congruent_projected q r l c label wide (normal_by (suc q) (suc r) l c)
@@ -90,10 +90,12 @@ module _ (q r l : ℕ) (c : ℕ → ℕ) (label : IsLabel (suc q) (suc r) c l) (
 pub same_modulo : QuotientEqualityIsDivisibility
 same_modulo p r l coords degrees d u v two inverses leads =
     label_cases (λ p r. SameVector p ((quotient p (r - 1) l (λ k. get_or coords k 0) degrees).dim d)
-        (projection p (r - 1) l (λ k. get_or coords k 0) degrees d u)
-        (projection p (r - 1) l (λ k. get_or coords k 0) degrees d v) ↔
-        IsSameModulo p r (λ k. get_or coords k 0) degrees d u v)
+    (projection p (r - 1) l (λ k. get_or coords k 0) degrees d u)
+    (projection p (r - 1) l (λ k. get_or coords k 0) degrees d v) ↔
+    IsSameModulo p r (λ k. get_or coords k 0) degrees d u v)
     p r l coords two inverses leads
     (λ q r label wide one. let less_one : suc r - 1 ≡ r = omega arith in
-        rw less_one (same_congruent q r l (λ k. get_or coords k 0) label wide one degrees d u v,
-        congruent_same q r l (λ k. get_or coords k 0) label wide one degrees d u v))
+    rw less_one (
+      same_congruent q r l (λ k. get_or coords k 0) label wide one degrees d u v,
+      congruent_same q r l (λ k. get_or coords k 0) label wide one degrees d u v,
+    ))

@@ -12,7 +12,7 @@ coefficient_small is_value num p (x ∷ xs) zero below values inside = below x (
 coefficient_small is_value num p (x ∷ xs) (suc i) below values inside =
     let rest : suc i < suc (length xs) = inside in
     coefficient_small is_value num p xs i below (λ k d l. let deeper : suc k < suc (length xs) = omega arith in
-        values (suc k) d deeper) (omega arith)
+    values (suc k) d deeper) (omega arith)
 
 pub length_more : {E : Type 0} (xs : List E) (x : E) → length (xs ++ x ∷ []) ≡ length xs + 1
 length_more xs x = simp length-append

@@ -46,14 +46,21 @@ polynomials_dim r d = refl
 block_small : (r d g : ℕ) → r ≤ 6 → d ≤ 6 → (moved g (polynomials r)).dim d ≤ 462
 block_small r d g wide small = elim (cases_lt d g) [
   | inl before ↦ omega (arith, moved_none (polynomials r) g d before)
-  | inr from ↦ omega (arith, moved_dim (polynomials r) g d from, polynomials_dim r (d - g),
-      count_small r (d - g) wide (omega arith))
+  | inr from ↦ omega (
+    arith,
+    moved_dim (polynomials r) g d from,
+    polynomials_dim r (d - g),
+    count_small r (d - g) wide (omega arith),
+  )
 ]
 
 pub free_at_most : (r d : ℕ) (gs : List ℕ) → r ≤ 6 → d ≤ 6 → (free r gs).dim d ≤ 462 * length gs
 free_at_most r d gs wide small =
-    omega (arith, copies_dim (polynomials r) d gs,
-    total_small (block_dim (polynomials r) d) 462 gs (λ g. block_small r d g wide small))
+    omega (
+      arith,
+      copies_dim (polynomials r) d gs,
+      total_small (block_dim (polynomials r) d) 462 gs (λ g. block_small r d g wide small),
+    )
 
 pub free_small : (r d : ℕ) (gs : List ℕ) → r ≤ 6 → d ≤ 6 → length gs < 2 ^ 32 → (free r gs).dim d < 2 ^ 64
 free_small r d gs wide small few = omega (arith, free_at_most r d gs wide small)

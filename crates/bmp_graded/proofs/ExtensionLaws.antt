@@ -28,8 +28,8 @@ linear_sum p n m map linear u f zero j l = linear_zero p n m map linear (λ j. 0
 linear_sum p n m map linear u f (suc k) j l =
     linear.sums (λ j. sum_below (λ i. u i * f i j) k) (λ j. u k * f k j) j l
     ∙ same_add p (map (λ j. sum_below (λ i. u i * f i j) k) j) (sum_below (λ i. u i * map (f i) j) k)
-        (map (λ j. u k * f k j) j) (u k * map (f k) j) (linear_sum p n m map linear u f k j l)
-        (linear.multiples (u k) (f k) j l)
+    (map (λ j. u k * f k j) j) (u k * map (f k) j) (linear_sum p n m map linear u f k j l)
+    (linear.multiples (u k) (f k) j l)
 
 module _ (r d k t : ℕ) (m : List ℕ) (wide : r ≤ 6) (is : IsMonomial 6 r k m) (total : d + k ≡ t) where
   stands : (i : ℕ) → i < count r d → StandsAt 6 r d i (exponents 6 r d i)
@@ -54,29 +54,29 @@ module _ (r d k t : ℕ) (m : List ℕ) (wide : r ≤ 6) (is : IsMonomial 6 r k 
         | inl fits ↦
             let x = less (exponents 6 r t j) m in
             let is_x : IsMonomial 6 r d (less (exponents 6 r t j) m) =
-                less_monomial 6 r d k t (exponents 6 r t j) m there.monomial is total fits in
+            less_monomial 6 r d k t (exponents 6 r t j) m there.monomial is total fits in
             let i = place r (less (exponents 6 r t j) m) in
             let below : place r (less (exponents 6 r t j) m) < count r d =
-                place_below 6 r d (less (exponents 6 r t j) m) wide is_x in
+            place_below 6 r d (less (exponents 6 r t j) m) wide is_x in
             let here : at (place r (less (exponents 6 r t j) m)) ≡ j =
-                ap (λ z. place r (joined z m)) (exponents-place 6 r d (less (exponents 6 r t j) m) wide is_x)
-                ∙ ap (place r) (joined-comm (less (exponents 6 r t j) m) m
-                ∙ joined-less (exponents 6 r t j) m same fits) ∙ there.place_is in
+            ap (λ z. place r (joined z m)) (exponents-place 6 r d (less (exponents 6 r t j) m) wide is_x)
+            ∙ ap (place r) (joined-comm (less (exponents 6 r t j) m) m
+            ∙ joined-less (exponents 6 r t j) m same fits) ∙ there.place_is in
             cond-true {A = ℕ} (contains (exponents 6 r t j) m) (u (place r (less (exponents 6 r t j) m))) 0 fits
             ∙ sym (sum_below_only (λ i. u i * cond (eqb (at i) j) 1 0) (count r d)
-                (place r (less (exponents 6 r t j) m)) below
-                (λ i li other. times_none (u i) (at i) j
-                (λ e. other (sym (stands i li).place_is
-                ∙ ap (place r) (sym (less_own (exponents 6 r d i) m ((stands i li).monomial.long ∙ sym is.long))
-                ∙ ap (λ z. less z m) (meets i li e)))))
+            (place r (less (exponents 6 r t j) m)) below
+            (λ i li other. times_none (u i) (at i) j
+            (λ e. other (sym (stands i li).place_is
+            ∙ ap (place r) (sym (less_own (exponents 6 r d i) m ((stands i li).monomial.long ∙ sym is.long))
+            ∙ ap (λ z. less z m) (meets i li e)))))
             ∙ times_one (u (place r (less (exponents 6 r t j) m))) (at (place r (less (exponents 6 r t j) m))) j here)
         | inr other ↦
             cond-false {A = ℕ} (contains (exponents 6 r t j) m) (u (place r (less (exponents 6 r t j) m))) 0 other
             ∙ sym (sum_below_same (λ i. u i * cond (eqb (at i) j) 1 0) (λ i. 0) (count r d)
-                (λ i li. times_none (u i) (at i) j
-                (λ e. both_ways (contains (exponents 6 r t j) m) other (ap (λ z. contains z m) (sym (meets i li e))
-                ∙ contains_own (exponents 6 r d i) m ((stands i li).monomial.long ∙ sym is.long))))
-                ∙ sum_below-zeros (count r d))
+            (λ i li. times_none (u i) (at i) j
+            (λ e. both_ways (contains (exponents 6 r t j) m) other (ap (λ z. contains z m) (sym (meets i li e))
+            ∙ contains_own (exponents 6 r d i) m ((stands i li).monomial.long ∙ sym is.long))))
+            ∙ sum_below-zeros (count r d))
       ]
     where
       times_one : (x a b : ℕ) → a ≡ b → x * cond (eqb a b) 1 0 ≡ x
@@ -101,17 +101,17 @@ module _ (r d k t : ℕ) (m : List ℕ) (wide : r ≤ 6) (is : IsMonomial 6 r k 
       ≡ sum_below (λ i. u i * X (at i)) (count r d)
   gathered u X =
       sum_below_same (λ j. shift m (λ e. u (place r e)) (exponents 6 r t j) * X j)
-          (λ j. sum_below (λ i. X j * (u i * cond (eqb (at i) j) 1 0)) (count r d)) (count r t)
+      (λ j. sum_below (λ i. X j * (u i * cond (eqb (at i) j) 1 0)) (count r d)) (count r t)
       (λ j l. ap (λ z. z * X j) (spread u j l) ∙ turn (sum_below (λ i. u i * cond (eqb (at i) j) 1 0) (count r d)) (X j)
-          ∙ sym (sum_below-mul (X j) (λ i. u i * cond (eqb (at i) j) 1 0) (count r d)))
+      ∙ sym (sum_below-mul (X j) (λ i. u i * cond (eqb (at i) j) 1 0) (count r d)))
       ∙ sum_below-swap (λ j i. X j * (u i * cond (eqb (at i) j) 1 0)) (count r t) (count r d)
       ∙ sum_below_same (λ i. sum_below (λ j. X j * (u i * cond (eqb (at i) j) 1 0)) (count r t)) (λ i. u i * X (at i))
-          (count r d)
+      (count r d)
       (λ i l. sum_below_only (λ j. X j * (u i * cond (eqb (at i) j) 1 0)) (count r t) (at i) (at_below i l)
-          (λ j lj other. gone (X j) (u i) (cond (eqb (at i) j) 1 0)
-          (cond-false {A = ℕ} (eqb (at i) j) 1 0 (ne_eqb (at i) j (λ e. other (sym e)))))
+      (λ j lj other. gone (X j) (u i) (cond (eqb (at i) j) 1 0)
+      (cond-false {A = ℕ} (eqb (at i) j) 1 0 (ne_eqb (at i) j (λ e. other (sym e)))))
       ∙ stays (X (at i)) (u i) (cond (eqb (at i) (at i)) 1 0)
-          (cond-true {A = ℕ} (eqb (at i) (at i)) 1 0 (eq-eqb (at i) (at i) refl)))
+      (cond-true {A = ℕ} (eqb (at i) (at i)) 1 0 (eq-eqb (at i) (at i) refl)))
     where
       turn : (x y : ℕ) → x * y ≡ y * x
       turn x y = omega arith
@@ -136,10 +136,10 @@ module _ (r d k t : ℕ) (m : List ℕ) (wide : r ≤ 6) (is : IsMonomial 6 r k 
       let degrees : (g + d) + k ≡ g + t = omega arith in
       ap (λ z. z % p) (gathered u (λ i. M.act (exponents 6 r t i) g (g + t) w j))
       ∙ sum_same_mod p (λ i. u i * M.act (exponents 6 r t (at i)) g (g + t) w j)
-          (λ i. u i * M.act m (g + d) (g + t) (M.act (exponents 6 r d i) g (g + d) w) j) (count r d)
+      (λ i. u i * M.act m (g + d) (g + t) (M.act (exponents 6 r d i) g (g + d) w) j) (count r d)
       (λ i li. same_mul p (u i) (u i) (M.act (exponents 6 r t (at i)) g (g + t) w j)
-          (M.act m (g + d) (g + t) (M.act (exponents 6 r d i) g (g + d) w) j) refl
+      (M.act m (g + d) (g + t) (M.act (exponents 6 r d i) g (g + d) w) j) refl
       (ap (λ z. M.act z g (g + t) w j % p) (at_is i li)
-          ∙ sym (laws.after (exponents 6 r d i) m d k g (g + d) (g + t) w (stands i li).monomial is refl degrees j l)))
+      ∙ sym (laws.after (exponents 6 r d i) m d k g (g + d) (g + t) w (stands i li).monomial is refl degrees j l)))
       ∙ sym (linear_sum p (M.dim (g + d)) (M.dim (g + t)) (M.act m (g + d) (g + t))
-          (laws.linear m k (g + d) (g + t) is degrees) u (λ i. M.act (exponents 6 r d i) g (g + d) w) (count r d) j l)
+      (laws.linear m k (g + d) (g + t) is degrees) u (λ i. M.act (exponents 6 r d i) g (g + d) w) (count r d) j l)

@@ -42,15 +42,27 @@ placed r (g ∷ gs) d j below =
     elim (cases_lt j n) [
       | inl first ↦ elim (cases_lt d g) [
         | inl before ↦ absurd (omega (arith, first, moved_none (polynomials r) g d before))
-        | inr from ↦ record { generator = 0; place = j; inside = omega arith; least = from;
-            below = omega (arith, first, moved_dim (polynomials r) g d from, polynomials_dim r (d - g)); is =
-            omega arith }
+        | inr from ↦ record {
+          generator = 0;
+          place = j;
+          inside = omega arith;
+          least = from;
+          below = omega (arith, first, moved_dim (polynomials r) g d from, polynomials_dim r (d - g));
+          is =
+              omega arith;
+        }
       ]
       | inr rest ↦
           let there : IsPlaced r gs d (j - n) = placed r gs d (j - n) (omega (arith, below, rest)) in
           let on : (n + start_of r gs d there.generator) + there.place ≡ j = omega (arith, there.is, rest) in
-          record { generator = suc there.generator; place = there.place; inside = omega (arith, there.inside);
-              least = there.least; below = there.below; is = on }
+          record {
+            generator = suc there.generator;
+            place = there.place;
+            inside = omega (arith, there.inside);
+            least = there.least;
+            below = there.below;
+            is = on;
+          }
     ]
 
 -- the generator h, by its coordinates in its own degree
@@ -60,7 +72,7 @@ generator r gs h = unit (start_of r gs (get_or gs h 0) h)
 pub generator_is_one : (r h : ℕ) (gs : List ℕ) → r ≤ 6 → h < length gs → IsGenerator r gs h (generator r gs h)
 generator_is_one r h gs wide inside =
     generator_is r h gs (generator r gs h) wide inside (unit_same (start_of r gs (get_or gs h 0) h))
-        (λ i other. unit_other (start_of r gs (get_or gs h 0) h) i (λ e. other (sym e)))
+    (λ i other. unit_other (start_of r gs (get_or gs h 0) h) i (λ e. other (sym e)))
 
 -- there is only one
 pub generator_once : (r h : ℕ) (gs : List ℕ) (u v : ℕ → ℕ) → r ≤ 6 → IsGenerator r gs h u → IsGenerator r gs h v →
@@ -69,12 +81,12 @@ generator_once r h gs u v wide is_u is_v j below =
     let there : IsPlaced r gs (get_or gs h 0) j = placed r gs (get_or gs h 0) j below in
     let m : List ℕ = exponents 6 r (get_or gs h 0 - get_or gs there.generator 0) there.place in
     let stands : StandsAt 6 r (get_or gs h 0 - get_or gs there.generator 0) there.place m =
-        exponents_stand 6 r (get_or gs h 0 - get_or gs there.generator 0) there.place wide there.below in
+    exponents_stand 6 r (get_or gs h 0 - get_or gs there.generator 0) there.place wide there.below in
     let read : (w : ℕ → ℕ) → component r gs there.generator (get_or gs h 0) w m ≡ w j =
     λ w. component_at r (get_or gs h 0) there.generator gs w m there.inside
-        ∙ ap (λ z. w (start_of r gs (get_or gs h 0) there.generator + z)) stands.place_is ∙ ap w there.is in
+    ∙ ap (λ z. w (start_of r gs (get_or gs h 0) there.generator + z)) stands.place_is ∙ ap w there.is in
     sym (read u) ∙ is_u there.generator m there.inside there.least stands.monomial
-        ∙ sym (is_v there.generator m there.inside there.least stands.monomial) ∙ read v
+    ∙ sym (is_v there.generator m there.inside there.least stands.monomial) ∙ read v
 
 constant : (r : ℕ) → r ≤ 6 → exponents 6 r 0 0 ≡ zeros 6
 constant r wide = let stands : StandsAt 6 r 0 0 (exponents 6 r 0 0) =
@@ -92,15 +104,15 @@ module _ (p r k : ℕ) (m : List ℕ) (wide : r ≤ 6) (is : IsMonomial 6 r k m)
       let long : length (zeros 6) ≡ length m = length-zeros 6 ∙ sym is.long in
       let sized : length (joined (zeros 6) m) ≡ 6 = length-joined (zeros 6) m long ∙ is.long in
       let same : joined (zeros 6) m ≡ m =
-          sym (ap (λ w. less (joined (zeros 6) m) (zeros w)) (sym sized) ∙ less-zeros (joined (zeros 6) m))
-          ∙ less-of_joined (zeros 6) m long in
+      sym (ap (λ w. less (joined (zeros 6) m) (zeros w)) (sym sized) ∙ less-zeros (joined (zeros 6) m))
+      ∙ less-of_joined (zeros 6) m long in
       moved_act_from (polynomials r) g g d j m u (omega arith)
       ∙ ap (λ z. (polynomials r).act m z (d - g) u j) none ∙ ap (λ z. (polynomials r).act m 0 z u j) whole
       ∙ spread r 0 k k m wide is (omega arith) u j below
       ∙ sum_below_only (λ i. u i * unit (place r (joined (exponents 6 r 0 i) m)) j) (count r 0) 0
-          (omega (arith, count_none r)) (λ i few other. absurd (omega (arith, few, other, count_none r)))
+      (omega (arith, count_none r)) (λ i few other. absurd (omega (arith, few, other, count_none r)))
       ∙ ap (λ z. z * unit (place r (joined (exponents 6 r 0 0) m)) j) one
-          ∙ one_times (unit (place r (joined (exponents 6 r 0 0) m)) j)
+      ∙ one_times (unit (place r (joined (exponents 6 r 0 0) m)) j)
       ∙ ap (λ z. unit (place r (joined z m)) j) (constant r wide) ∙ ap (λ z. unit (place r z) j) same
 
   -- m times the generator h is the element that is 1 at the place of m there
@@ -115,23 +127,23 @@ module _ (p r k : ℕ) (m : List ℕ) (wide : r ≤ 6) (is : IsMonomial 6 r k m)
       let later = λ (i : ℕ). unit 0 (one + i) in
       let whole : d - g ≡ k = omega arith in
       let own : (moved g (polynomials r)).dim d ≡ count r k = moved_dim (polynomials r) g d (omega arith)
-          ∙ polynomials_dim r (d - g) ∙ ap (count r) whole in
+      ∙ polynomials_dim r (d - g) ∙ ap (count r) whole in
       let start : 0 + place r m ≡ place r m = omega arith in
       elim (cases_lt j n) [
         | inl first ↦
             ap (λ z. z % p) (cond-true {A = ℕ} (ltb j n) ((moved g (polynomials r)).act m g d (unit 0) j)
-                ((free r gs).act m g d later (j - n)) (lt-ltb j n first)
+            ((free r gs).act m g d later (j - n)) (lt-ltb j n first)
             ∙ one_acted g d j (unit 0) sizes (unit_same 0) (omega (arith, first, own)) ∙ ap (λ z. unit z j) (sym start))
         | inr second ↦
             ap (λ z. z % p) (cond-false {A = ℕ} (ltb j n) ((moved g (polynomials r)).act m g d (unit 0) j)
-                ((free r gs).act m g d later (j - n)) (le-ltb j n second))
+            ((free r gs).act m g d later (j - n)) (le-ltb j n second))
             ∙ linear_zero p ((free r gs).dim g) ((free r gs).dim d) ((free r gs).act m g d)
-                ((free_is_module p r gs wide).linear m k g d is sizes) later
+            ((free_is_module p r gs wide).linear m k g d is sizes) later
             (λ i b. ap (λ z. z % p) (unit_other 0 (one + i) (λ e. absurd (omega (arith, e, own_block r g))))) (j - n)
-                (omega (arith, below, second))
+            (omega (arith, below, second))
             ∙ ap (λ z. z % p)
-                (sym (unit_other (0 + place r m) j
-                (λ e. absurd (omega (arith, e, second, own, place_below 6 r k m wide is)))))
+            (sym (unit_other (0 + place r m) j
+            (λ e. absurd (omega (arith, e, second, own, place_below 6 r k m wide is)))))
       ]
   generator_acted (g ∷ gs) (suc h) d inside sizes j below =
       let n = (moved g (polynomials r)).dim d in
@@ -144,20 +156,20 @@ module _ (p r k : ℕ) (m : List ℕ) (wide : r ≤ 6) (is : IsMonomial 6 r k m)
       elim (cases_lt j n) [
         | inl first ↦
             ap (λ z. z % p) (cond-true {A = ℕ} (ltb j n) ((moved g (polynomials r)).act m a d (unit (before + s)) j)
-                ((free r gs).act m a d (λ i. unit (before + s) (before + i)) (j - n)) (lt-ltb j n first))
+            ((free r gs).act m a d (λ i. unit (before + s) (before + i)) (j - n)) (lt-ltb j n first))
             ∙ linear_zero p before n ((moved g (polynomials r)).act m a d)
-                ((moved_is_module p r g (polynomials r) (polynomials_is_module p r wide)).linear m k a d is sizes)
-                (unit (before + s))
+            ((moved_is_module p r g (polynomials r) (polynomials_is_module p r wide)).linear m k a d is sizes)
+            (unit (before + s))
             (λ i b. ap (λ z. z % p) (unit_other (before + s) i (λ e. absurd (omega (arith, e, b))))) j first
             ∙ ap (λ z. z % p) (sym (unit_other ((n + t) + place r m) j (λ e. absurd (omega (arith, e, first)))))
         | inr second ↦
             let back : n + (j - n) ≡ j = omega (arith, second) in
             ap (λ z. z % p) (cond-false {A = ℕ} (ltb j n) ((moved g (polynomials r)).act m a d (unit (before + s)) j)
-                ((free r gs).act m a d (λ i. unit (before + s) (before + i)) (j - n)) (le-ltb j n second)
+            ((free r gs).act m a d (λ i. unit (before + s) (before + i)) (j - n)) (le-ltb j n second)
             ∙ ap (λ w. (free r gs).act m a d w (j - n)) (fun_ext (λ i. unit_moved before s i)))
             ∙ generator_acted gs h d (omega (arith, here)) sizes (j - n) (omega (arith, below, second))
             ∙ ap (λ z. z % p) (sym (unit_moved n (t + place r m) (j - n)) ∙ ap (λ z. unit z (n + (j - n))) over
-                ∙ ap (unit ((n + t) + place r m)) back)
+            ∙ ap (unit ((n + t) + place r m)) back)
       ]
 
 -- at each place stands a monomial times a generator, so maps that agree on the generators agree
@@ -173,17 +185,17 @@ maps_determined p r M gs f g v wide laws F G same d u =
     let sizes : a + k ≡ d = omega (arith, at.least) in
     let own : (i : ℕ) → i < (free r gs).dim a → generator r gs at.generator i ≡ v at.generator i =
     generator_once r at.generator gs (generator r gs at.generator) (v at.generator) wide
-        (generator_is_one r at.generator gs wide at.inside) (same at.generator at.inside).0 in
+    (generator_is_one r at.generator gs wide at.inside) (same at.generator at.inside).0 in
     let acted : SameVector p ((free r gs).dim d) (unit j) ((free r gs).act m a d (v at.generator)) =
     λ i b.
     ap (λ z. unit z i % p) (sym (ap (λ z. start_of r gs d at.generator + z) stands.place_is ∙ at.is))
     ∙ sym (generator_acted p r k m wide stands.monomial gs at.generator d at.inside sizes i b)
     ∙ ((free_is_module p r gs wide).linear m k a d stands.monomial sizes).respects (generator r gs at.generator)
-        (v at.generator) (λ i b. ap (λ z. z % p) (own i b)) i b in
+    (v at.generator) (λ i b. ap (λ z. z % p) (own i b)) i b in
     (F.linear d).respects (unit j) ((free r gs).act m a d (v at.generator)) acted i inside
     ∙ F.acts m k a d (v at.generator) stands.monomial sizes i inside
     ∙ (laws.linear m k a d stands.monomial sizes).respects (f a (v at.generator)) (g a (v at.generator))
-        (same at.generator at.inside).1 i inside
+    (same at.generator at.inside).1 i inside
     ∙ sym (G.acts m k a d (v at.generator) stands.monomial sizes i inside)
     ∙ sym ((G.linear d).respects (unit j) ((free r gs).act m a d (v at.generator)) acted i inside)) u
 
@@ -194,8 +206,8 @@ extension_sends p r h M gs ws v wide laws inside is j below =
     let one : count r (a - a) ≡ 1 = ap (count r) none ∙ count_none r in
     let first : start_of r gs a h + 0 ≡ start_of r gs a h = omega arith in
     ((extension_map p r M gs ws wide laws).linear a).respects v (generator r gs h)
-        (λ i b. ap (λ z. z % p)
-        (generator_once r h gs v (generator r gs h) wide is (generator_is_one r h gs wide inside) i b)) j below
+    (λ i b. ap (λ z. z % p)
+    (generator_once r h gs v (generator r gs h) wide is (generator_is_one r h gs wide inside) i b)) j below
     ∙ ap (λ z. extension r M gs ws a (unit z) j % p) (sym first)
     ∙ ap (λ z. z % p) (extension_unit r M a gs ws h 0 j inside (omega arith) (omega (arith, one)))
     ∙ ap (λ z. M.act z a a (ws h) j % p) (ap (λ z. exponents 6 r z 0) none ∙ constant r wide)
@@ -205,9 +217,11 @@ extension_sends p r h M gs ws v wide laws inside is j below =
 pub extension_is : (p r : ℕ) (M : Graded) (gs : List ℕ) (ws : ℕ → ℕ → ℕ) (f : ℕ → (ℕ → ℕ) → ℕ → ℕ) → r ≤ 6 →
     IsModule p r M → IsModuleMap p r (free r gs) M f
     → ((h : ℕ) → h < length gs → SameVector p (M.dim (get_or gs h 0)) (ws h) (f (get_or gs h 0) (generator r gs h))) →
-        (d : ℕ) (u : ℕ → ℕ) → SameVector p (M.dim d) (extension r M gs ws d u) (f d u)
+    (d : ℕ) (u : ℕ → ℕ) → SameVector p (M.dim d) (extension r M gs ws d u) (f d u)
 extension_is p r M gs ws f wide laws F same =
     maps_determined p r M gs (extension r M gs ws) f (generator r gs) wide laws (extension_map p r M gs ws wide laws) F
-    (λ h inside. let is : IsGenerator r gs h (generator r gs h) = generator_is_one r h gs wide inside in
-    (is, λ i below. extension_sends p r h M gs ws (generator r gs h) wide laws inside is i below
-        ∙ same h inside i below))
+    (λ h inside. let is : IsGenerator r gs h (generator r gs h) = generator_is_one r h gs wide inside in (
+      is,
+      λ i below. extension_sends p r h M gs ws (generator r gs h) wide laws inside is i below
+          ∙ same h inside i below,
+    ))

@@ -26,8 +26,11 @@ narrower_module p r r' M fewer laws = record {
 pub nothing_is_module : (p r : ℕ) → IsModule p r nothing
 unfolding nothing
 nothing_is_module p r = record {
-  linear = λ m k d t is e. record { respects = λ u v h j l. absurd (omega arith);
-      sums = λ u v j l. absurd (omega arith); multiples = λ c v j l. absurd (omega arith) };
+  linear = λ m k d t is e. record {
+    respects = λ u v h j l. absurd (omega arith);
+    sums = λ u v j l. absurd (omega arith);
+    multiples = λ c v j l. absurd (omega arith);
+  };
   one = λ d v j l. absurd (omega arith);
   after = λ m n k h d t u v is_m is_n e f j l. absurd (omega arith);
 }
@@ -47,9 +50,9 @@ polynomials_is_module p r wide = record {
         elim (cases_Bool (contains (exponents 6 r t j) m)) [
           | inl fits ↦
               let rest : IsMonomial 6 r d (less (exponents 6 r t j) m) =
-                  less_monomial 6 r d k t (exponents 6 r t j) m stands.monomial is e fits in
+              less_monomial 6 r d k t (exponents 6 r t j) m stands.monomial is e fits in
               rw fits (h (place r (less (exponents 6 r t j) m))
-                  (place_below 6 r d (less (exponents 6 r t j) m) wide rest))
+              (place_below 6 r d (less (exponents 6 r t j) m) wide rest))
           | inr other ↦ rw other refl
         ];
     sums = λ u v j l. ap (λ z. z % p)
@@ -61,13 +64,13 @@ polynomials_is_module p r wide = record {
   one = λ d v j l.
       let stands : StandsAt 6 r d j (exponents 6 r d j) = exponents_stand 6 r d j wide l in
       let fits : contains (exponents 6 r d j) (zeros 6) ≡ true =
-          ap (λ w. contains (exponents 6 r d j) (zeros w)) (sym stands.monomial.long)
-          ∙ contains-zeros (exponents 6 r d j) in
+      ap (λ w. contains (exponents 6 r d j) (zeros w)) (sym stands.monomial.long)
+      ∙ contains-zeros (exponents 6 r d j) in
       let same : less (exponents 6 r d j) (zeros 6) ≡ exponents 6 r d j =
-          ap (λ w. less (exponents 6 r d j) (zeros w)) (sym stands.monomial.long) ∙ less-zeros (exponents 6 r d j) in
+      ap (λ w. less (exponents 6 r d j) (zeros w)) (sym stands.monomial.long) ∙ less-zeros (exponents 6 r d j) in
       ap (λ z. z % p) (cond-true {A = ℕ} (contains (exponents 6 r d j) (zeros 6))
-          (v (place r (less (exponents 6 r d j) (zeros 6)))) 0 fits ∙ ap (λ z. v (place r z)) same
-          ∙ ap v stands.place_is);
+      (v (place r (less (exponents 6 r d j) (zeros 6)))) 0 fits ∙ ap (λ z. v (place r z)) same
+      ∙ ap v stands.place_is);
   after = λ m n k h d t u v is_m is_n e f j l.
       let stands : StandsAt 6 r u j (exponents 6 r u j) = exponents_stand 6 r u j wide l in
       let long_x : length (exponents 6 r u j) ≡ length n = stands.monomial.long ∙ sym is_n.long in
@@ -75,10 +78,13 @@ polynomials_is_module p r wide = record {
       elim (cases_Bool (contains (exponents 6 r u j) n)) [
         | inl fits ↦
             let rest : IsMonomial 6 r t (less (exponents 6 r u j) n) =
-                less_monomial 6 r t h u (exponents 6 r u j) n stands.monomial is_n f fits in
-            rw (fits, exponents-place 6 r t (less (exponents 6 r u j) n) wide rest,
-                contains-joined (exponents 6 r u j) m n long_x long_m fits,
-                less-joined (exponents 6 r u j) m n long_x long_m) refl
+            less_monomial 6 r t h u (exponents 6 r u j) n stands.monomial is_n f fits in
+            rw (
+              fits,
+              exponents-place 6 r t (less (exponents 6 r u j) n) wide rest,
+              contains-joined (exponents 6 r u j) m n long_x long_m fits,
+              less-joined (exponents 6 r u j) m n long_x long_m,
+            ) refl
         | inr other ↦ rw (other, contains-joined_false (exponents 6 r u j) m n long_x long_m other) refl
       ];
 }
@@ -89,7 +95,7 @@ pub linear_zero : (p n m : ℕ) (map : (ℕ → ℕ) → ℕ → ℕ) → IsLine
 linear_zero p n m map linear w none j l =
     let zero_is : 0 * map w j ≡ 0 = omega arith in
     linear.respects w (λ i. 0 * w i) (λ i k. none i k ∙ ap (λ z. z % p) (nil (w i))) j l ∙ linear.multiples 0 w j l
-        ∙ ap (λ z. z % p) zero_is
+    ∙ ap (λ z. z % p) zero_is
   where
     nil : (x : ℕ) → 0 ≡ 0 * x
     nil x = omega arith
@@ -146,18 +152,18 @@ moved_is_module p r g M laws = record {
         let on_u : leb g u ≡ true = le-leb g u (omega arith) in
         let here : j < M.dim (u - g) = rw on_u at l in
         let outer : IsLinear p (M.dim (t - g)) (M.dim (u - g)) (M.act n (t - g) (u - g)) =
-            laws.linear n h (t - g) (u - g) is_n (omega arith) in
+        laws.linear n h (t - g) (u - g) is_n (omega arith) in
         elim (cases_lt d g) [
           | inl early ↦
               let off_d : leb g d ≡ false = lt-leb g d early in
               rw on_t (linear_zero p (M.dim (t - g)) (M.dim (u - g)) (M.act n (t - g) (u - g)) outer
-                  (λ i. cond (leb g d) (M.act m (d - g) (t - g) v i) 0)
-                  (λ i k. ap (λ z. z % p) (cond-false {A = ℕ} (leb g d) (M.act m (d - g) (t - g) v i) 0 off_d)) j here
+              (λ i. cond (leb g d) (M.act m (d - g) (t - g) v i) 0)
+              (λ i k. ap (λ z. z % p) (cond-false {A = ℕ} (leb g d) (M.act m (d - g) (t - g) v i) 0 off_d)) j here
               ∙ ap (λ z. z % p) (sym (cond-false {A = ℕ} (leb g d) (M.act (joined m n) (d - g) (u - g) v j) 0 off_d)))
           | inr late ↦
               let on_d : leb g d ≡ true = le-leb g d late in
               rw on_t (outer.respects (λ i. cond (leb g d) (M.act m (d - g) (t - g) v i) 0) (M.act m (d - g) (t - g) v)
-                  (λ i k. ap (λ z. z % p) (cond-true {A = ℕ} (leb g d) (M.act m (d - g) (t - g) v i) 0 on_d)) j here
+              (λ i k. ap (λ z. z % p) (cond-true {A = ℕ} (leb g d) (M.act m (d - g) (t - g) v i) 0 on_d)) j here
               ∙ laws.after m n k h (d - g) (t - g) (u - g) v is_m is_n (omega arith) (omega arith) j here
               ∙ ap (λ z. z % p) (sym (cond-true {A = ℕ} (leb g d) (M.act (joined m n) (d - g) (u - g) v j) 0 on_d)))
         ]
@@ -182,19 +188,19 @@ both_is_module p r A B a b = record {
         | inl first ↦
             rw (lt-ltb j (A.dim u) first)
             (out_a.respects (λ i. cond (ltb i (A.dim t)) (A.act m d t v i)
-                (B.act m d t (λ i. v (A.dim d + i)) (i - A.dim t))) (A.act m d t v)
+            (B.act m d t (λ i. v (A.dim d + i)) (i - A.dim t))) (A.act m d t v)
             (λ i below. ap (λ z. z % p)
-                (cond-true {A = ℕ} (ltb i (A.dim t)) (A.act m d t v i)
-                (B.act m d t (λ i. v (A.dim d + i)) (i - A.dim t)) (lt-ltb i (A.dim t) below))) j first
+            (cond-true {A = ℕ} (ltb i (A.dim t)) (A.act m d t v i)
+            (B.act m d t (λ i. v (A.dim d + i)) (i - A.dim t)) (lt-ltb i (A.dim t) below))) j first
             ∙ a.after m n k h d t u v is_m is_n e f j first)
         | inr second ↦
             rw (le-ltb j (A.dim u) second)
             (out_b.respects (λ i. cond (ltb (A.dim t + i) (A.dim t)) (A.act m d t v (A.dim t + i))
-                (B.act m d t (λ i. v (A.dim d + i)) ((A.dim t + i) - A.dim t))) (B.act m d t (λ i. v (A.dim d + i)))
+            (B.act m d t (λ i. v (A.dim d + i)) ((A.dim t + i) - A.dim t))) (B.act m d t (λ i. v (A.dim d + i)))
             (λ i below. let back : (A.dim t + i) - A.dim t ≡ i = omega arith in
-                ap (λ z. z % p) (cond-false {A = ℕ} (ltb (A.dim t + i) (A.dim t)) (A.act m d t v (A.dim t + i))
-                (B.act m d t (λ i. v (A.dim d + i)) ((A.dim t + i) - A.dim t))
-                (le-ltb (A.dim t + i) (A.dim t) (omega arith)) ∙ ap (B.act m d t (λ i. v (A.dim d + i))) back))
+            ap (λ z. z % p) (cond-false {A = ℕ} (ltb (A.dim t + i) (A.dim t)) (A.act m d t v (A.dim t + i))
+            (B.act m d t (λ i. v (A.dim d + i)) ((A.dim t + i) - A.dim t))
+            (le-ltb (A.dim t + i) (A.dim t) (omega arith)) ∙ ap (B.act m d t (λ i. v (A.dim d + i))) back))
             (j - A.dim u) (omega arith)
             ∙ b.after m n k h d t u (λ i. v (A.dim d + i)) is_m is_n e f (j - A.dim u) (omega arith))
       ];
@@ -215,5 +221,5 @@ direct_sum_is_module p r [] laws = nothing_is_module p r
 direct_sum_is_module p r (M ∷ Ms) laws =
     let some : 0 < suc (length Ms) = omega arith in
     both_is_module p r M (direct_sum Ms) (laws 0 M some)
-        (direct_sum_is_module p r Ms (λ k d l. let below : suc k < suc (length Ms) = omega arith in
-        laws (suc k) d below))
+    (direct_sum_is_module p r Ms (λ k d l. let below : suc k < suc (length Ms) = omega arith in
+    laws (suc k) d below))

@@ -11,8 +11,11 @@ use Rattle.bmp_graded.proofs.GradedLemmas.{linear_zero, both_linear, nothing_is_
 pub nothing_map : (p r : ℕ) (N : Graded) → IsModule p r N → IsModuleMap p r nothing N (λ d u j. 0)
 unfolding nothing
 nothing_map p r N laws = record {
-  linear = λ d. record { respects = λ u v h j l. refl; sums = λ u v j l. refl;
-      multiples = λ c v j l. ap (λ z. z % p) (none c) };
+  linear = λ d. record {
+    respects = λ u v h j l. refl;
+    sums = λ u v j l. refl;
+    multiples = λ c v j l. ap (λ z. z % p) (none c);
+  };
   acts = λ m k d t v is e j l. sym
       (linear_zero p (N.dim d) (N.dim t) (N.act m d t) (laws.linear m k d t is e) (λ i. 0) (λ i b. refl) j l);
 }
@@ -31,28 +34,28 @@ sum_of_maps p r A B N f g laws F G = record {
         l);
     sums = λ u v j l.
         same_add p (f d (λ i. u i + v i) j) (f d u j + f d v j) (g d (λ i. u (A.dim d + i) + v (A.dim d + i)) j)
-            (g d (λ i. u (A.dim d + i)) j + g d (λ i. v (A.dim d + i)) j) ((F.linear d).sums u v j l)
-            ((G.linear d).sums (λ i. u (A.dim d + i)) (λ i. v (A.dim d + i)) j l)
+        (g d (λ i. u (A.dim d + i)) j + g d (λ i. v (A.dim d + i)) j) ((F.linear d).sums u v j l)
+        ((G.linear d).sums (λ i. u (A.dim d + i)) (λ i. v (A.dim d + i)) j l)
         ∙ ap (λ z. z % p) (four (f d u j) (f d v j) (g d (λ i. u (A.dim d + i)) j) (g d (λ i. v (A.dim d + i)) j));
     multiples = λ c v j l.
         same_add p (f d (λ i. c * v i) j) (c * f d v j) (g d (λ i. c * v (A.dim d + i)) j)
-            (c * g d (λ i. v (A.dim d + i)) j) ((F.linear d).multiples c v j l)
-            ((G.linear d).multiples c (λ i. v (A.dim d + i)) j l)
+        (c * g d (λ i. v (A.dim d + i)) j) ((F.linear d).multiples c v j l)
+        ((G.linear d).multiples c (λ i. v (A.dim d + i)) j l)
         ∙ ap (λ z. z % p) (times c (f d v j) (g d (λ i. v (A.dim d + i)) j));
   };
   acts = λ m k d t v is e j l.
       let w = λ (i : ℕ). cond (ltb i (A.dim t)) (A.act m d t v i) (B.act m d t (λ a. v (A.dim d + a)) (i - A.dim t)) in
       same_add p (f t w j) (N.act m d t (f d v) j) (g t (λ i. w (A.dim t + i)) j)
-          (N.act m d t (g d (λ a. v (A.dim d + a))) j)
+      (N.act m d t (g d (λ a. v (A.dim d + a))) j)
       ((F.linear t).respects w (A.act m d t v)
-          (λ i b. ap (λ z. z % p)
-          (cond-true {A = ℕ} (ltb i (A.dim t)) (A.act m d t v i) (B.act m d t (λ a. v (A.dim d + a)) (i - A.dim t))
-          (lt-ltb i (A.dim t) b))) j l ∙ F.acts m k d t v is e j l)
+      (λ i b. ap (λ z. z % p)
+      (cond-true {A = ℕ} (ltb i (A.dim t)) (A.act m d t v i) (B.act m d t (λ a. v (A.dim d + a)) (i - A.dim t))
+      (lt-ltb i (A.dim t) b))) j l ∙ F.acts m k d t v is e j l)
       ((G.linear t).respects (λ i. w (A.dim t + i)) (B.act m d t (λ a. v (A.dim d + a)))
       (λ i b. let back : (A.dim t + i) - A.dim t ≡ i = omega arith in
-          ap (λ z. z % p) (cond-false {A = ℕ} (ltb (A.dim t + i) (A.dim t)) (A.act m d t v (A.dim t + i))
-          (B.act m d t (λ a. v (A.dim d + a)) ((A.dim t + i) - A.dim t)) (le-ltb (A.dim t + i) (A.dim t) (omega arith))
-          ∙ ap (B.act m d t (λ a. v (A.dim d + a))) back)) j l
+      ap (λ z. z % p) (cond-false {A = ℕ} (ltb (A.dim t + i) (A.dim t)) (A.act m d t v (A.dim t + i))
+      (B.act m d t (λ a. v (A.dim d + a)) ((A.dim t + i) - A.dim t)) (le-ltb (A.dim t + i) (A.dim t) (omega arith))
+      ∙ ap (B.act m d t (λ a. v (A.dim d + a))) back)) j l
       ∙ G.acts m k d t (λ a. v (A.dim d + a)) is e j l)
       ∙ sym ((laws.linear m k d t is e).sums (f d v) (g d (λ a. v (A.dim d + a))) j l);
 }
@@ -76,31 +79,31 @@ both_map p r A B M N f g in_m in_n F G = record {
         | inl first ↦
             rw (lt-ltb j (M.dim t) first)
             ((F.linear t).respects w (A.act m d t v)
-                (λ i b. ap (λ z. z % p)
-                (cond-true {A = ℕ} (ltb i (A.dim t)) (A.act m d t v i)
-                (B.act m d t (λ a. v (A.dim d + a)) (i - A.dim t)) (lt-ltb i (A.dim t) b))) j first
+            (λ i b. ap (λ z. z % p)
+            (cond-true {A = ℕ} (ltb i (A.dim t)) (A.act m d t v i)
+            (B.act m d t (λ a. v (A.dim d + a)) (i - A.dim t)) (lt-ltb i (A.dim t) b))) j first
             ∙ F.acts m k d t v is e j first
             ∙ sym ((in_m.linear m k d t is e).respects
-                (λ i. cond (ltb i (M.dim d)) (f d v i) (g d (λ a. v (A.dim d + a)) (i - M.dim d))) (f d v)
-                (λ i b. ap (λ z. z % p)
-                (cond-true {A = ℕ} (ltb i (M.dim d)) (f d v i) (g d (λ a. v (A.dim d + a)) (i - M.dim d))
-                (lt-ltb i (M.dim d) b))) j first))
+            (λ i. cond (ltb i (M.dim d)) (f d v i) (g d (λ a. v (A.dim d + a)) (i - M.dim d))) (f d v)
+            (λ i b. ap (λ z. z % p)
+            (cond-true {A = ℕ} (ltb i (M.dim d)) (f d v i) (g d (λ a. v (A.dim d + a)) (i - M.dim d))
+            (lt-ltb i (M.dim d) b))) j first))
         | inr second ↦
             rw (le-ltb j (M.dim t) second)
             ((G.linear t).respects (λ i. w (A.dim t + i)) (B.act m d t (λ a. v (A.dim d + a)))
             (λ i b. let back : (A.dim t + i) - A.dim t ≡ i = omega arith in
-                ap (λ z. z % p) (cond-false {A = ℕ} (ltb (A.dim t + i) (A.dim t)) (A.act m d t v (A.dim t + i))
-                (B.act m d t (λ a. v (A.dim d + a)) ((A.dim t + i) - A.dim t))
-                (le-ltb (A.dim t + i) (A.dim t) (omega arith)) ∙ ap (B.act m d t (λ a. v (A.dim d + a))) back))
-                (j - M.dim t) (omega arith)
+            ap (λ z. z % p) (cond-false {A = ℕ} (ltb (A.dim t + i) (A.dim t)) (A.act m d t v (A.dim t + i))
+            (B.act m d t (λ a. v (A.dim d + a)) ((A.dim t + i) - A.dim t))
+            (le-ltb (A.dim t + i) (A.dim t) (omega arith)) ∙ ap (B.act m d t (λ a. v (A.dim d + a))) back))
+            (j - M.dim t) (omega arith)
             ∙ G.acts m k d t (λ a. v (A.dim d + a)) is e (j - M.dim t) (omega arith)
             ∙ sym ((in_n.linear m k d t is e).respects
-                (λ i. cond (ltb (M.dim d + i) (M.dim d)) (f d v (M.dim d + i))
-                (g d (λ a. v (A.dim d + a)) ((M.dim d + i) - M.dim d))) (g d (λ a. v (A.dim d + a)))
+            (λ i. cond (ltb (M.dim d + i) (M.dim d)) (f d v (M.dim d + i))
+            (g d (λ a. v (A.dim d + a)) ((M.dim d + i) - M.dim d))) (g d (λ a. v (A.dim d + a)))
             (λ i b. let back : (M.dim d + i) - M.dim d ≡ i = omega arith in
-                ap (λ z. z % p) (cond-false {A = ℕ} (ltb (M.dim d + i) (M.dim d)) (f d v (M.dim d + i))
-                (g d (λ a. v (A.dim d + a)) ((M.dim d + i) - M.dim d)) (le-ltb (M.dim d + i) (M.dim d) (omega arith))
-                ∙ ap (g d (λ a. v (A.dim d + a))) back)) (j - M.dim t) (omega arith)))
+            ap (λ z. z % p) (cond-false {A = ℕ} (ltb (M.dim d + i) (M.dim d)) (f d v (M.dim d + i))
+            (g d (λ a. v (A.dim d + a)) ((M.dim d + i) - M.dim d)) (le-ltb (M.dim d + i) (M.dim d) (omega arith))
+            ∙ ap (g d (λ a. v (A.dim d + a))) back)) (j - M.dim t) (omega arith)))
       ];
 }
 
@@ -110,8 +113,11 @@ unfolding moved
 moved_map p r g A M f F = record {
   linear = λ d. elim (leb g d) as (λ b. IsLinear p (cond b (A.dim (d - g)) 0) (cond b (M.dim (d - g)) 0) (f (d - g))) [
     | true ↦ F.linear (d - g)
-    | false ↦ record { respects = λ u v h j l. absurd (omega arith); sums = λ u v j l. absurd (omega arith);
-        multiples = λ c v j l. absurd (omega arith) }
+    | false ↦ record {
+      respects = λ u v h j l. absurd (omega arith);
+      sums = λ u v j l. absurd (omega arith);
+      multiples = λ c v j l. absurd (omega arith);
+    }
   ];
   acts = λ m k d t v is e j l. elim (cases_lt t g) [
     | inl early ↦ absurd (let off : leb g t ≡ false = lt-leb g t early in let none = rw off at l in omega arith)
@@ -122,14 +128,14 @@ moved_map p r g A M f F = record {
           | inl before ↦
               let off : leb g d ≡ false = lt-leb g d before in
               linear_zero p (A.dim (t - g)) (M.dim (t - g)) (f (t - g)) (F.linear (t - g))
-                  (λ i. cond (leb g d) (A.act m (d - g) (t - g) v i) 0)
-                  (λ i b. ap (λ z. z % p) (cond-false {A = ℕ} (leb g d) (A.act m (d - g) (t - g) v i) 0 off)) j here
+              (λ i. cond (leb g d) (A.act m (d - g) (t - g) v i) 0)
+              (λ i b. ap (λ z. z % p) (cond-false {A = ℕ} (leb g d) (A.act m (d - g) (t - g) v i) 0 off)) j here
               ∙ ap (λ z. z % p) (sym (cond-false {A = ℕ} (leb g d) (M.act m (d - g) (t - g) (f (d - g) v) j) 0 off))
           | inr from ↦
               let on : leb g d ≡ true = le-leb g d from in
               (F.linear (t - g)).respects (λ i. cond (leb g d) (A.act m (d - g) (t - g) v i) 0)
-                  (A.act m (d - g) (t - g) v)
-                  (λ i b. ap (λ z. z % p) (cond-true {A = ℕ} (leb g d) (A.act m (d - g) (t - g) v i) 0 on)) j here
+              (A.act m (d - g) (t - g) v)
+              (λ i b. ap (λ z. z % p) (cond-true {A = ℕ} (leb g d) (A.act m (d - g) (t - g) v i) 0 on)) j here
               ∙ F.acts m k (d - g) (t - g) v is (omega arith) j here
               ∙ ap (λ z. z % p) (sym (cond-true {A = ℕ} (leb g d) (M.act m (d - g) (t - g) (f (d - g) v) j) 0 on))
         ]
@@ -145,6 +151,6 @@ unfolding copies blockwise
 copies_map p r A M f [] laws F = nothing_map p r nothing (nothing_is_module p r)
 copies_map p r A M f (g ∷ gs) laws F =
     both_map p r (moved g A) (copies A gs) (moved g M) (copies M gs) (λ d. f (d - g))
-        (λ d. blockwise (λ g. (moved g A).dim d) (λ g. (moved g M).dim d) (λ g. f (d - g)) gs)
+    (λ d. blockwise (λ g. (moved g A).dim d) (λ g. (moved g M).dim d) (λ g. f (d - g)) gs)
     (moved_is_module p r g M laws) (copies_is_module p r M gs laws) (moved_map p r g A M f F)
-        (copies_map p r A M f gs laws F)
+    (copies_map p r A M f gs laws F)

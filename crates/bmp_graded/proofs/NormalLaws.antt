@@ -29,15 +29,18 @@ module _ (p r l : ℕ) (coords : List ℕ) (two : 2 ≤ p) (inverses : HasInvers
       SameForm p 6 r d (normal a) (normal b)
   normal_congruent a b h =
       is_normal a (normal b)
-          (record { pure = (normal_is b).pure; congruent = congruent_trans p 6 r d (slice_index coords) a b (normal b) h
-          (normal_is b).congruent })
+      (record {
+        pure = (normal_is b).pure;
+        congruent = congruent_trans p 6 r d (slice_index coords) a b (normal b) h
+            (normal_is b).congruent;
+      })
 
   pub congruent_normal : (a b : Form) → SameForm p 6 r d (normal a) (normal b) →
       Congruent p 6 r d (slice_index coords) a b
   congruent_normal a b same =
       congruent_trans p 6 r d (slice_index coords) a (normal a) b (normal_is a).congruent
       (congruent_trans p 6 r d (slice_index coords) (normal a) (normal b) b
-          (congruent_refl p 6 r d (slice_index coords) (normal a) (normal b) same)
+      (congruent_refl p 6 r d (slice_index coords) (normal a) (normal b) same)
       (congruent_turned p r d (slice_index coords) b (normal b) two (normal_is b).congruent))
 
   pub normal-plus : (a b : Form) → SameForm p 6 r d (normal (λ m. a m + b m)) (λ m. normal a m + normal b m)

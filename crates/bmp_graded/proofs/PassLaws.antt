@@ -40,8 +40,8 @@ module _ (q r d l : ℕ) (c : ℕ → ℕ) (label : IsLabel (suc q) r c l) (wide
       let turned : (q * (t * i)) * c l ≡ (q * t) * (i * c l) = omega arith in
       let whole : t + (q * t) * 1 ≡ 0 + suc q * t = omega arith in
       ap (λ z. (t + (z * (t * i)) * c l) % suc q) less_one ∙ ap (λ z. (t + z) % suc q) turned
-          ∙ same_add (suc q) t t ((q * t) * (i * c l)) ((q * t) * 1) refl
-          (same_mul (suc q) (q * t) (q * t) (i * c l) 1 refl one) ∙ ap (λ z. z % suc q) whole ∙ same_past (suc q) 0 t
+      ∙ same_add (suc q) t t ((q * t) * (i * c l)) ((q * t) * 1) refl
+      (same_mul (suc q) (q * t) (q * t) (i * c l) 1 refl one) ∙ ap (λ z. z % suc q) whole ∙ same_past (suc q) 0 t
 
   pass_reduces : (n : ℕ) → n ≤ count r d → ReducedBelow (suc q) 6 r d c l n a (pass (suc q) r l c d a n)
   unfolding pass
@@ -49,11 +49,11 @@ module _ (q r d l : ℕ) (c : ℕ → ℕ) (label : IsLabel (suc q) r c l) (wide
   pass_reduces (suc n) le =
       let stands : StandsAt 6 r d n (exponents 6 r d n) = exponents_stand 6 r d n wide (omega arith) in
       let so_far : ReducedBelow (suc q) 6 r d c l (place r (exponents 6 r d n)) a (pass (suc q) r l c d a n) =
-          rw stands.place_is (pass_reduces n (omega arith)) in
+      rw stands.place_is (pass_reduces n (omega arith)) in
       let next : suc n ≡ place r (exponents 6 r d n) + 1 = omega (arith, stands.place_is) in
       let s = (suc q - 1) * (pass (suc q) r l c d a n (exponents 6 r d n) * inverse_below (suc q) (c l) (suc q)) in
       let done : ReducedBelow (suc q) 6 r d c l (place r (exponents 6 r d n) + 1) a (pass (suc q) r l c d a (suc n)) =
-          elim (cases_eq (get_or (exponents 6 r d n) l 0) 0) [
+      elim (cases_eq (get_or (exponents 6 r d n) l 0) 0) [
         | inl none ↦ rw (eq-eqb (get_or (exponents 6 r d n) l 0) 0 none)
             (reduced_past q 6 r d l c label wide a (pass (suc q) r l c d a n) (exponents 6 r d n) stands.monomial none
             so_far)
@@ -90,25 +90,28 @@ label_cases P (suc q) zero l coords two inverses leads f = absurd (let h : l < 0
 label_cases P (suc q) (suc r) l coords two inverses leads f =
     let m = inverses (get_or coords l 0) ((leads.fits l).0 leads.here) leads.first.not_zero in
     let found : (get_or coords l 0 * inverse_below (suc q) (get_or coords l 0) (suc q)) % suc q ≡ 1 =
-        inverse_found (suc q) (get_or coords l 0) (suc q) m.0 m.1 m.2 in
+    inverse_found (suc q) (get_or coords l 0) (suc q) m.0 m.1 m.2 in
     let turned : inverse_below (suc q) (get_or coords l 0) (suc q) * get_or coords l 0
-        ≡ get_or coords l 0 * inverse_below (suc q) (get_or coords l 0) (suc q) = omega arith in
+    ≡ get_or coords l 0 * inverse_below (suc q) (get_or coords l 0) (suc q) = omega arith in
     let one : SameMod (suc q) (inverse_below (suc q) (get_or coords l 0) (suc q) * get_or coords l 0) 1 =
-        ap (λ z. z % suc q) turned ∙ found ∙ sym (mod-eq_of_lt two) in
-    f q r (record { here = leads.here; before = leads.first.before;
-        inverse = (inverse_below (suc q) (get_or coords l 0) (suc q), one) }) leads.rank one
+    ap (λ z. z % suc q) turned ∙ found ∙ sym (mod-eq_of_lt two) in
+    f q r (record {
+      here = leads.here;
+      before = leads.first.before;
+      inverse = (inverse_below (suc q) (get_or coords l 0) (suc q), one);
+    }) leads.rank one
 
 pub quotients_are_modules : QuotientsAreModules
 quotients_are_modules p r l coords degrees two inverses leads =
     label_cases (λ p r. IsModule p r (quotient p (r - 1) l (λ k. get_or coords k 0) degrees)) p r l coords two inverses
-        leads
+    leads
     (λ q r label wide one. let less_one : suc r - 1 ≡ r = omega arith in
-        rw less_one (quotient_is_module q r l (λ k. get_or coords k 0) degrees label wide one))
+    rw less_one (quotient_is_module q r l (λ k. get_or coords k 0) degrees label wide one))
 
 pub normal_forms_are_normal : NormalFormsAreNormal
 normal_forms_are_normal p r l coords d a two inverses leads =
     label_cases (λ p r. IsNormalForm p 6 r d (λ k. get_or coords k 0) l a
-        (normal_by p r l (λ k. get_or coords k 0) d a)) p r l coords two inverses leads
+    (normal_by p r l (λ k. get_or coords k 0) d a)) p r l coords two inverses leads
     (λ q r label wide one. normal_by_is q r l (λ k. get_or coords k 0) label wide one d a)
 
 -- any normal form of a has the numbers of the one that `normal_by` makes
@@ -117,16 +120,16 @@ pub normal_number : (p r l : ℕ) (coords : List ℕ) (d : ℕ) (a b : Form) →
     SameForm p 6 r d b (normal_by p r l (λ k. get_or coords k 0) d a)
 normal_number p r l coords d a b two inverses leads =
     label_cases (λ p r. IsNormalForm p 6 r d (λ k. get_or coords k 0) l a b →
-        SameForm p 6 r d b (normal_by p r l (λ k. get_or coords k 0) d a)) p r l coords two inverses leads
+    SameForm p 6 r d b (normal_by p r l (λ k. get_or coords k 0) d a)) p r l coords two inverses leads
     (λ q r label wide one is.
     let made : IsNormalForm (suc q) 6 (suc r) d (λ k. get_or coords k 0) l a
-        (normal_by (suc q) (suc r) l (λ k. get_or coords k 0) d a) =
-        normal_by_is q r l (λ k. get_or coords k 0) label wide one d a in
+    (normal_by (suc q) (suc r) l (λ k. get_or coords k 0) d a) =
+    normal_by_is q r l (λ k. get_or coords k 0) label wide one d a in
     pure_congruent_same q 6 (suc r) d l (λ k. get_or coords k 0) label wide b
-        (normal_by (suc q) (suc r) l (λ k. get_or coords k 0) d a) is.pure made.pure
+    (normal_by (suc q) (suc r) l (λ k. get_or coords k 0) d a) is.pure made.pure
     (congruent_trans (suc q) 6 (suc r) d (λ k. get_or coords k 0) b a
-        (normal_by (suc q) (suc r) l (λ k. get_or coords k 0) d a)
-        (congruent_sym q 6 (suc r) d (λ k. get_or coords k 0) a b is.congruent) made.congruent))
+    (normal_by (suc q) (suc r) l (λ k. get_or coords k 0) d a)
+    (congruent_sym q 6 (suc r) d (λ k. get_or coords k 0) a b is.congruent) made.congruent))
 
 -- the same polynomials have the same normal forms
 pub normal_respects : (p r l : ℕ) (coords : List ℕ) (d : ℕ) (a b : Form) → 2 ≤ p → HasInverses p →
@@ -134,7 +137,7 @@ pub normal_respects : (p r l : ℕ) (coords : List ℕ) (d : ℕ) (a b : Form) �
     (normal_by p r l (λ k. get_or coords k 0) d b)
 normal_respects p r l coords d a b two inverses leads same =
     let made : IsNormalForm p 6 r d (λ k. get_or coords k 0) l a (normal_by p r l (λ k. get_or coords k 0) d a) =
-        normal_forms_are_normal p r l coords d a two inverses leads in
+    normal_forms_are_normal p r l coords d a two inverses leads in
     normal_number p r l coords d b (normal_by p r l (λ k. get_or coords k 0) d a) two inverses leads
     (record {
       pure = made.pure;
@@ -156,7 +159,7 @@ normal_value p s r l coords d a b e x same two inverses leads is is_e x_is small
     let leads_p : IsLeading p r l coords = rw (← same) at leads in
     let is_p : IsNormalForm p 6 r d (λ k. get_or coords k 0) l a b = rw (← same) at is in
     let agree : SameMod p (b e) (normal_by p r l (λ k. get_or coords k 0) d a e) =
-        normal_number p r l coords d a b two inverses leads_p is_p e is_e in
+    normal_number p r l coords d a b two inverses leads_p is_p e is_e in
     sym (mod-eq_of_lt small) ∙ ap (λ z. z % p) x_is ∙ rw (← same) agree
 
 -- one component modulo a label
@@ -164,9 +167,9 @@ pub reduced_over : (p s r l : ℕ) (coords : List ℕ) → p ≡ s → 2 ≤ p �
     IsModule p r (reduced (r - 1) l (normal_by s (suc (r - 1)) l (λ k. get_or coords k 0)))
 reduced_over p s r l coords same two inverses leads =
     rw (← same) (label_cases
-        (λ p r. IsModule p r (reduced (r - 1) l (normal_by p (suc (r - 1)) l (λ k. get_or coords k 0)))) p r l coords
-        two inverses (rw (← same) at leads)
+    (λ p r. IsModule p r (reduced (r - 1) l (normal_by p (suc (r - 1)) l (λ k. get_or coords k 0)))) p r l coords
+    two inverses (rw (← same) at leads)
     (λ q r label wide one. let less_one : suc r - 1 ≡ r = omega arith in
-        rw less_one (reduced_is_module q r l (λ k. get_or coords k 0) label wide
-        (normal_by (suc q) (suc r) l (λ k. get_or coords k 0))
-        (normal_by_is q r l (λ k. get_or coords k 0) label wide one))))
+    rw less_one (reduced_is_module q r l (λ k. get_or coords k 0) label wide
+    (normal_by (suc q) (suc r) l (λ k. get_or coords k 0))
+    (normal_by_is q r l (λ k. get_or coords k 0) label wide one))))

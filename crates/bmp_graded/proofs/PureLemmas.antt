@@ -29,7 +29,7 @@ rotated_right zero n xs le long last =
     let past : length xs ≤ suc n = omega arith in
     let empty : drop (suc n) xs ≡ [] = drop_of_length-le xs past in
     let one : drop n xs ≡ 0 ∷ [] =
-        drop-cons xs n 0 (omega arith) ∙ ap₂ (λ (x : ℕ) (rest : List ℕ). x ∷ rest) last empty in
+    drop-cons xs n 0 (omega arith) ∙ ap₂ (λ (x : ℕ) (rest : List ℕ). x ∷ rest) last empty in
     rw (all, one) refl
 rotated_right (suc a) zero xs le long last = absurd (omega arith)
 rotated_right (suc a) (suc n) [] le long last = absurd (let none : 0 ≡ suc (suc n) = long in omega arith)

@@ -38,8 +38,11 @@ pub insert_monomial : (w r d l : ℕ) (m : List ℕ) → l ≤ r → r ≤ w →
     IsMonomial (suc w) (suc r) d (insert l m)
 insert_monomial w r d l m h g is =
     let long : length m ≡ w = is.long in
-    record { long = insert_long l m (omega arith) ∙ ap suc long; size = insert_sum l m (omega arith) ∙ is.size;
-        past = λ k le. insert_past l r k m h le is.past }
+    record {
+      long = insert_long l m (omega arith) ∙ ap suc long;
+      size = insert_sum l m (omega arith) ∙ is.size;
+      past = λ k le. insert_past l r k m h le is.past;
+    }
 
 remove_long : (l : ℕ) (e : List ℕ) → l < length e → suc (length (remove l e)) ≡ length e
 unfolding remove
@@ -67,8 +70,11 @@ pub remove_monomial : (w r d l : ℕ) (e : List ℕ) → l ≤ r → r ≤ w →
     IsMonomial w r d (remove l e)
 remove_monomial w r d l e h g none is =
     let long : length e ≡ suc w = is.long in
-    record { long = let z : suc (length (remove l e)) ≡ suc w = remove_long l e (omega arith) ∙ long in omega arith;
-        size = remove_sum l e none ∙ is.size; past = λ k le. remove_past l r k e h le is.past }
+    record {
+      long = let z : suc (length (remove l e)) ≡ suc w = remove_long l e (omega arith) ∙ long in omega arith;
+      size = remove_sum l e none ∙ is.size;
+      past = λ k le. remove_past l r k e h le is.past;
+    }
 
 pub remove_insert : (l : ℕ) (m : List ℕ) → l ≤ length m → remove l (insert l m) ≡ m
 unfolding insert remove

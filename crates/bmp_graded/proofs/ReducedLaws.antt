@@ -75,15 +75,15 @@ module _ (q r l : ℕ) (c : ℕ → ℕ) (label : IsLabel (suc q) (suc r) c l) (
         | inl none ↦
             let rest : IsMonomial 5 r t (remove l m) = remove_monomial 5 r t l m leading (omega arith) none is in
             let back : insert l (exponents 5 r t (place r (remove l m))) ≡ m =
-                ap (insert l) (exponents-place 5 r t (remove l m) (omega arith) rest)
-                ∙ insert_remove l m (omega arith) none in
+            ap (insert l) (exponents-place 5 r t (remove l m) (omega arith) rest)
+            ∙ insert_remove l m (omega arith) none in
             ap (λ z. z % suc q)
-                (cond-true {A = ℕ} (eqb (get_or m l 0) 0) (b (insert l (exponents 5 r t (place r (remove l m))))) 0
-                (eq-eqb (get_or m l 0) 0 none) ∙ ap b back)
+            (cond-true {A = ℕ} (eqb (get_or m l 0) 0) (b (insert l (exponents 5 r t (place r (remove l m))))) 0
+            (eq-eqb (get_or m l 0) 0 none) ∙ ap b back)
         | inr some ↦
             ap (λ z. z % suc q)
-                (cond-false {A = ℕ} (eqb (get_or m l 0) 0) (b (insert l (exponents 5 r t (place r (remove l m))))) 0
-                (ne_eqb (get_or m l 0) 0 some))
+            (cond-false {A = ℕ} (eqb (get_or m l 0) 0) (b (insert l (exponents 5 r t (place r (remove l m))))) 0
+            (ne_eqb (get_or m l 0) 0 some))
             ∙ sym (pure m is (omega arith))
       ]
 
@@ -93,8 +93,8 @@ module _ (q r l : ℕ) (c : ℕ → ℕ) (label : IsLabel (suc q) (suc r) c l) (
       let long : length (exponents 5 r d i) ≡ 5 = stands.monomial.long in
       let here : l ≤ r = leading in
       cond-true {A = ℕ} (eqb (get_or (insert l (exponents 5 r d i)) l 0) 0)
-          (v (place r (remove l (insert l (exponents 5 r d i))))) 0
-          (eq-eqb (get_or (insert l (exponents 5 r d i)) l 0) 0 (insert_at l (exponents 5 r d i)))
+      (v (place r (remove l (insert l (exponents 5 r d i))))) 0
+      (eq-eqb (get_or (insert l (exponents 5 r d i)) l 0) 0 (insert_at l (exponents 5 r d i)))
       ∙ ap (λ z. v (place r z)) (remove_insert l (exponents 5 r d i) (omega arith)) ∙ ap v stands.place_is
 
   -- a pure polynomial congruent to a is its normal form
@@ -115,14 +115,14 @@ module _ (q r l : ℕ) (c : ℕ → ℕ) (label : IsLabel (suc q) (suc r) c l) (
       SameForm (suc q) 6 (suc r) t (normal t (λ e. a e + b e)) (λ e. normal t a e + normal t b e)
   normal_add t a b = normal_of t (λ e. a e + b e) (λ e. normal t a e + normal t b e)
       (λ m is some. same_add (suc q) (normal t a m) 0 (normal t b m) 0 ((normal_is t a).pure m is some)
-          ((normal_is t b).pure m is some))
+      ((normal_is t b).pure m is some))
       (congruent_add (suc q) 6 (suc r) t c a (normal t a) b (normal t b) (normal_is t a).congruent
-          (normal_is t b).congruent)
+      (normal_is t b).congruent)
 
   normal_mul : (t x : ℕ) (a : Form) → SameForm (suc q) 6 (suc r) t (normal t (λ e. x * a e)) (λ e. x * normal t a e)
   normal_mul t x a = normal_of t (λ e. x * a e) (λ e. x * normal t a e)
       (λ m is some. let none : x * 0 ≡ 0 = omega arith in
-          same_mul (suc q) x x (normal t a m) 0 refl ((normal_is t a).pure m is some) ∙ ap (λ z. z % suc q) none)
+      same_mul (suc q) x x (normal t a m) 0 refl ((normal_is t a).pure m is some) ∙ ap (λ z. z % suc q) none)
       (congruent_mul (suc q) 6 (suc r) t c x a (normal t a) (normal_is t a).congruent)
 
   pub reduced_is_module : IsModule (suc q) (suc r) (reduced r l normal)
@@ -135,25 +135,25 @@ module _ (q r l : ℕ) (c : ℕ → ℕ) (label : IsLabel (suc q) (suc r) c l) (
           (insert l (exponents 5 r t j)) (inserted t j below);
       sums = λ u v j below.
           normal_same t (shift m (pure_form r l (λ i. u i + v i)))
-              (λ x. shift m (pure_form r l u) x + shift m (pure_form r l v) x)
+          (λ x. shift m (pure_form r l u) x + shift m (pure_form r l v) x)
           (congruent_refl (suc q) 6 (suc r) t c (shift m (pure_form r l (λ i. u i + v i)))
-              (λ x. shift m (pure_form r l u) x + shift m (pure_form r l v) x)
-              (λ x is_x. ap (λ z. z % suc q)
-              (ap (λ z. cond (contains x m) z 0)
-              (shift-add (eqb (get_or (less x m) l 0) 0) (u (place r (remove l (less x m))))
-              (v (place r (remove l (less x m)))))
-              ∙ shift-add (contains x m) (pure_form r l u (less x m)) (pure_form r l v (less x m)))))
+          (λ x. shift m (pure_form r l u) x + shift m (pure_form r l v) x)
+          (λ x is_x. ap (λ z. z % suc q)
+          (ap (λ z. cond (contains x m) z 0)
+          (shift-add (eqb (get_or (less x m) l 0) 0) (u (place r (remove l (less x m))))
+          (v (place r (remove l (less x m)))))
+          ∙ shift-add (contains x m) (pure_form r l u (less x m)) (pure_form r l v (less x m)))))
           (insert l (exponents 5 r t j)) (inserted t j below)
           ∙ normal_add t (shift m (pure_form r l u)) (shift m (pure_form r l v)) (insert l (exponents 5 r t j))
-              (inserted t j below);
+          (inserted t j below);
       multiples = λ y v j below.
           normal_same t (shift m (pure_form r l (λ i. y * v i))) (λ x. y * shift m (pure_form r l v) x)
           (congruent_refl (suc q) 6 (suc r) t c (shift m (pure_form r l (λ i. y * v i)))
-              (λ x. y * shift m (pure_form r l v) x)
-              (λ x is_x. ap (λ z. z % suc q)
-              (ap (λ z. cond (contains x m) z 0)
-              (shift-mul (eqb (get_or (less x m) l 0) 0) y (v (place r (remove l (less x m)))))
-              ∙ shift-mul (contains x m) y (pure_form r l v (less x m)))))
+          (λ x. y * shift m (pure_form r l v) x)
+          (λ x is_x. ap (λ z. z % suc q)
+          (ap (λ z. cond (contains x m) z 0)
+          (shift-mul (eqb (get_or (less x m) l 0) 0) y (v (place r (remove l (less x m)))))
+          ∙ shift-mul (contains x m) y (pure_form r l v (less x m)))))
           (insert l (exponents 5 r t j)) (inserted t j below)
           ∙ normal_mul t y (shift m (pure_form r l v)) (insert l (exponents 5 r t j)) (inserted t j below);
     };
@@ -163,34 +163,34 @@ module _ (q r l : ℕ) (c : ℕ → ℕ) (label : IsLabel (suc q) (suc r) c l) (
         let fits : contains x (zeros 6) ≡ true = ap (λ w. contains x (zeros w)) (sym is_x.long) ∙ contains-zeros x in
         let same : less x (zeros 6) ≡ x = ap (λ w. less x (zeros w)) (sym is_x.long) ∙ less-zeros x in
         ap (λ z. z % suc q) (cond-true {A = ℕ} (contains x (zeros 6)) (pure_form r l v (less x (zeros 6))) 0 fits
-            ∙ ap (pure_form r l v) same)))
+        ∙ ap (pure_form r l v) same)))
         (insert l (exponents 5 r d j)) (inserted d j below)
         ∙ ap (λ z. z % suc q) (read_back d j v below);
     after = λ m n k h d t u v is_m is_n e f j below.
         let again : Congruent (suc q) 6 (suc r) t c
-            (pure_form r l (λ i. normal t (shift m (pure_form r l v)) (insert l (exponents 5 r t i))))
-            (shift m (pure_form r l v)) =
+        (pure_form r l (λ i. normal t (shift m (pure_form r l v)) (insert l (exponents 5 r t i))))
+        (shift m (pure_form r l v)) =
         congruent_trans (suc q) 6 (suc r) t c
-            (pure_form r l (λ i. normal t (shift m (pure_form r l v)) (insert l (exponents 5 r t i))))
-            (normal t (shift m (pure_form r l v))) (shift m (pure_form r l v))
+        (pure_form r l (λ i. normal t (shift m (pure_form r l v)) (insert l (exponents 5 r t i))))
+        (normal t (shift m (pure_form r l v))) (shift m (pure_form r l v))
         (congruent_refl (suc q) 6 (suc r) t c
-            (pure_form r l (λ i. normal t (shift m (pure_form r l v)) (insert l (exponents 5 r t i))))
-            (normal t (shift m (pure_form r l v)))
-            (pure_again t (normal t (shift m (pure_form r l v))) (normal_is t (shift m (pure_form r l v))).pure))
+        (pure_form r l (λ i. normal t (shift m (pure_form r l v)) (insert l (exponents 5 r t i))))
+        (normal t (shift m (pure_form r l v)))
+        (pure_again t (normal t (shift m (pure_form r l v))) (normal_is t (shift m (pure_form r l v))).pure))
         (congruent_sym q 6 (suc r) t c (shift m (pure_form r l v)) (normal t (shift m (pure_form r l v)))
-            (normal_is t (shift m (pure_form r l v))).congruent) in
+        (normal_is t (shift m (pure_form r l v))).congruent) in
         normal_same u (shift n
-            (pure_form r l (λ i. normal t (shift m (pure_form r l v)) (insert l (exponents 5 r t i)))))
-            (shift (joined m n) (pure_form r l v))
+        (pure_form r l (λ i. normal t (shift m (pure_form r l v)) (insert l (exponents 5 r t i)))))
+        (shift (joined m n) (pure_form r l v))
         (congruent_trans (suc q) 6 (suc r) u c
-            (shift n (pure_form r l (λ i. normal t (shift m (pure_form r l v)) (insert l (exponents 5 r t i)))))
-            (shift n (shift m (pure_form r l v))) (shift (joined m n) (pure_form r l v))
+        (shift n (pure_form r l (λ i. normal t (shift m (pure_form r l v)) (insert l (exponents 5 r t i)))))
+        (shift n (shift m (pure_form r l v))) (shift (joined m n) (pure_form r l v))
         (congruent_shift (suc q) (suc r) t h u c n
-            (pure_form r l (λ i. normal t (shift m (pure_form r l v)) (insert l (exponents 5 r t i))))
-            (shift m (pure_form r l v)) is_n f again)
+        (pure_form r l (λ i. normal t (shift m (pure_form r l v)) (insert l (exponents 5 r t i))))
+        (shift m (pure_form r l v)) is_n f again)
         (congruent_refl (suc q) 6 (suc r) u c (shift n (shift m (pure_form r l v)))
-            (shift (joined m n) (pure_form r l v))
-            (λ x is_x. ap (λ z. z % suc q) (shift_joined 6 (suc r) d k h t u m n (pure_form r l v) x is_m is_n is_x))))
+        (shift (joined m n) (pure_form r l v))
+        (λ x is_x. ap (λ z. z % suc q) (shift_joined 6 (suc r) d k h t u m n (pure_form r l v) x is_m is_n is_x))))
         (insert l (exponents 5 r u j)) (inserted u j below);
   }
 
@@ -218,7 +218,7 @@ module _ (q r l : ℕ) (c : ℕ → ℕ) (label : IsLabel (suc q) (suc r) c l) (
         normal_same t first (shift m last)
         (congruent_trans (suc q) 6 (suc r) t c first (shift m a) (shift m last)
         (congruent_refl (suc q) 6 (suc r) t c first (shift m a)
-            (λ x is_x. ap (λ z. shift m a z % suc q) (exponents-place 6 (suc r) t x wide is_x)))
+        (λ x is_x. ap (λ z. shift m a z % suc q) (exponents-place 6 (suc r) t x wide is_x)))
         (congruent_shift (suc q) (suc r) d k t c m a last is e
         (congruent_trans (suc q) 6 (suc r) d c a b last (normal_is d a).congruent
         (congruent_refl (suc q) 6 (suc r) d c b last (λ x is_x. sym (pure_again d b (normal_is d a).pure x is_x))))))
@@ -237,10 +237,10 @@ module _ (q r l : ℕ) (c : ℕ → ℕ) (label : IsLabel (suc q) (suc r) c l) (
       congruent_trans (suc q) 6 (suc r) d c a (normal d a) b (normal_is d a).congruent
       (congruent_trans (suc q) 6 (suc r) d c (normal d a) (normal d b) b
       (congruent_refl (suc q) 6 (suc r) d c (normal d a) (normal d b)
-          (λ m is. sym (pure_again d (normal d a) (normal_is d a).pure m is)
-          ∙ pure_same d (λ i. normal d a (insert l (exponents 5 r d i)))
-          (λ i. normal d b (insert l (exponents 5 r d i))) h m is
-          ∙ pure_again d (normal d b) (normal_is d b).pure m is))
+      (λ m is. sym (pure_again d (normal d a) (normal_is d a).pure m is)
+      ∙ pure_same d (λ i. normal d a (insert l (exponents 5 r d i)))
+      (λ i. normal d b (insert l (exponents 5 r d i))) h m is
+      ∙ pure_again d (normal d b) (normal_is d b).pure m is))
       (congruent_sym q 6 (suc r) d c b (normal d b) (normal_is d b).congruent))
 
   pub congruent_projected :

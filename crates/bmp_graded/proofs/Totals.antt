@@ -53,7 +53,7 @@ module _ {X : Type 0} (n : X → ℕ) where
   total_apart gs a (suc b) x before inside =
       let next : suc b ≡ b + 1 = omega arith in
       let more : total n (take (suc b) gs) ≡ total n (take b gs) + n (get_or gs b x) =
-          rw next (total_taken gs b x (omega arith)) in
+      rw next (total_taken gs b x (omega arith)) in
       elim (cases_eq a b) [
         | inl same ↦ rw same (omega (arith, more))
         | inr other ↦ omega (arith, more, total_apart gs a b x (omega arith) (omega arith))

@@ -20,11 +20,17 @@ pub locate : {M : Type 0} (dim : M → ℕ) (ms : List M) (i : ℕ) → i < tota
 unfolding total
 locate dim [] i inside = absurd (let none : i < 0 = inside in omega arith)
 locate dim (x ∷ ms) i inside = elim (cases_lt i (dim x)) [
-  | inl here ↦ record { part = 0; place = i; inside = let some : 0 < suc (length ms) = omega arith in
-      some; below = λ m. here; is = let same : i ≡ 0 + i = omega arith in same }
+  | inl here ↦ record {
+    part = 0;
+    place = i;
+    inside = let some : 0 < suc (length ms) = omega arith in
+        some;
+    below = λ m. here;
+    is = let same : i ≡ 0 + i = omega arith in same;
+  }
   | inr past ↦
       let rest : Located dim ms (i - dim x) =
-          locate dim ms (i - dim x) (let all : i < dim x + total dim ms = inside in omega arith) in
+      locate dim ms (i - dim x) (let all : i < dim x + total dim ms = inside in omega arith) in
       record {
         part = suc rest.part;
         place = rest.place;
@@ -45,17 +51,17 @@ joined_at dim coordinate (x ∷ ms) [] k j m e inside sized below =
 joined_at dim coordinate (x ∷ ms) (y ∷ es) zero j m e inside sized below =
     let same : 0 + j ≡ j = omega arith in
     rw same (cond-true {A = ℕ} (ltb j (dim x)) (coordinate x y j) (joined_coordinates dim coordinate ms es (j - dim x))
-        (lt-ltb j (dim x) below))
+    (lt-ltb j (dim x) below))
 joined_at dim coordinate (x ∷ ms) (y ∷ es) (suc k) j m e inside sized below =
     let rest : suc k < suc (length ms) = inside in
     let sizes : suc (length es) ≡ suc (length ms) = sized in
     let back : ((dim x + total dim (take k ms)) + j) - dim x ≡ total dim (take k ms) + j = omega arith in
     cond-false {A = ℕ} (ltb ((dim x + total dim (take k ms)) + j) (dim x))
-        (coordinate x y ((dim x + total dim (take k ms)) + j))
-        (joined_coordinates dim coordinate ms es (((dim x + total dim (take k ms)) + j) - dim x))
-        (le-ltb ((dim x + total dim (take k ms)) + j) (dim x) (omega arith))
+    (coordinate x y ((dim x + total dim (take k ms)) + j))
+    (joined_coordinates dim coordinate ms es (((dim x + total dim (take k ms)) + j) - dim x))
+    (le-ltb ((dim x + total dim (take k ms)) + j) (dim x) (omega arith))
     ∙ ap (joined_coordinates dim coordinate ms es) back
-        ∙ joined_at dim coordinate ms es k j m e (omega arith) (omega arith) below
+    ∙ joined_at dim coordinate ms es k j m e (omega arith) (omega arith) below
 
 pub direct_sum_dim : {M : Type 0} (graded : M → Graded) (d : ℕ) (ms : List M) →
     (direct_sum (map graded ms)).dim d ≡ total (λ m. (graded m).dim d) ms
@@ -74,23 +80,23 @@ direct_sum_act graded x d t v (y ∷ ms) zero j m inside below =
     let same : 0 + j ≡ j = omega arith in
     let shifted : (λ (i : ℕ). v (0 + i)) ≡ v = fun_ext (λ i. let at : 0 + i ≡ i = omega arith in ap v at) in
     rw same (cond-true {A = ℕ} (ltb j ((graded y).dim t)) ((graded y).act x d t v j)
-        ((direct_sum (map graded ms)).act x d t (λ i. v ((graded y).dim d + i)) (j - (graded y).dim t))
-        (lt-ltb j ((graded y).dim t) below)
+    ((direct_sum (map graded ms)).act x d t (λ i. v ((graded y).dim d + i)) (j - (graded y).dim t))
+    (lt-ltb j ((graded y).dim t) below)
     ∙ ap (λ w. (graded y).act x d t w j) (sym shifted))
 direct_sum_act graded x d t v (y ∷ ms) (suc k) j m inside below =
     let rest : suc k < suc (length ms) = inside in
     let i = ((graded y).dim t + total (λ m. (graded m).dim t) (take k ms)) + j in
     let back : (((graded y).dim t + total (λ m. (graded m).dim t) (take k ms)) + j) - (graded y).dim t
-        ≡ total (λ m. (graded m).dim t) (take k ms) + j = omega arith in
+    ≡ total (λ m. (graded m).dim t) (take k ms) + j = omega arith in
     let shifted : (λ (a : ℕ). v ((graded y).dim d + (total (λ m. (graded m).dim d) (take k ms) + a)))
-        ≡ (λ (a : ℕ). v (((graded y).dim d + total (λ m. (graded m).dim d) (take k ms)) + a)) =
-        fun_ext (λ a. let at : (graded y).dim d + (total (λ m. (graded m).dim d) (take k ms) + a)
-        ≡ ((graded y).dim d + total (λ m. (graded m).dim d) (take k ms)) + a = omega arith in ap v at) in
+    ≡ (λ (a : ℕ). v (((graded y).dim d + total (λ m. (graded m).dim d) (take k ms)) + a)) =
+    fun_ext (λ a. let at : (graded y).dim d + (total (λ m. (graded m).dim d) (take k ms) + a)
+    ≡ ((graded y).dim d + total (λ m. (graded m).dim d) (take k ms)) + a = omega arith in ap v at) in
     cond-false {A = ℕ} (ltb (((graded y).dim t + total (λ m. (graded m).dim t) (take k ms)) + j) ((graded y).dim t))
-        ((graded y).act x d t v (((graded y).dim t + total (λ m. (graded m).dim t) (take k ms)) + j))
-        ((direct_sum (map graded ms)).act x d t (λ i. v ((graded y).dim d + i))
-        ((((graded y).dim t + total (λ m. (graded m).dim t) (take k ms)) + j) - (graded y).dim t))
-        (le-ltb (((graded y).dim t + total (λ m. (graded m).dim t) (take k ms)) + j) ((graded y).dim t) (omega arith))
+    ((graded y).act x d t v (((graded y).dim t + total (λ m. (graded m).dim t) (take k ms)) + j))
+    ((direct_sum (map graded ms)).act x d t (λ i. v ((graded y).dim d + i))
+    ((((graded y).dim t + total (λ m. (graded m).dim t) (take k ms)) + j) - (graded y).dim t))
+    (le-ltb (((graded y).dim t + total (λ m. (graded m).dim t) (take k ms)) + j) ((graded y).dim t) (omega arith))
     ∙ ap ((direct_sum (map graded ms)).act x d t (λ i. v ((graded y).dim d + i))) back
     ∙ direct_sum_act graded x d t (λ i. v ((graded y).dim d + i)) ms k j m (omega arith) below
     ∙ ap (λ w. (graded (get_or ms k m)).act x d t w j) shifted
@@ -104,7 +110,7 @@ sum_over graded p r [] laws = nothing_is_module p r
 sum_over graded p r (m ∷ ms) laws =
     let some : 0 < suc (length ms) = omega arith in
     both_is_module p r (graded m) (direct_sum (map graded ms)) (laws 0 m some)
-        (sum_over graded p r ms (λ k x l. let below : suc k < suc (length ms) = omega arith in laws (suc k) x below))
+    (sum_over graded p r ms (λ k x l. let below : suc k < suc (length ms) = omega arith in laws (suc k) x below))
 
 pub tuple_laws : {M : Type 0} (Fits : M → Type 0) (rank : M → ℕ) (graded : M → Graded) (p : ℕ) (ms : List M) →
     ((m : M) → Fits m → IsModule p (rank m) (graded m)) → FitEach Fits rank ms →
@@ -127,11 +133,11 @@ pub joined_each : {M E : Type 0} (P : ℕ → Type 0) (dim : M → ℕ) (coordin
 joined_each P dim coordinate ms es sized each i inside =
     let at : Located dim ms i = locate dim ms i inside in
     let read = joined_at dim coordinate ms es at.part at.place (member ms at.part at.inside)
-        (member es at.part (let within = at.inside in omega arith)) at.inside sized
-        (at.below (member ms at.part at.inside)) in
+    (member es at.part (let within = at.inside in omega arith)) at.inside sized
+    (at.below (member ms at.part at.inside)) in
     subst P (sym (ap (joined_coordinates dim coordinate ms es) at.is ∙ read))
-        (each at.part at.place (member ms at.part at.inside) (member es at.part (let within = at.inside in omega arith))
-        at.inside (at.below (member ms at.part at.inside)))
+    (each at.part at.place (member ms at.part at.inside) (member es at.part (let within = at.inside in omega arith))
+    at.inside (at.below (member ms at.part at.inside)))
 
 pub tuple_numbers : {M E : Type 0} (is_element : M → E → Type 0) (degree : M → E → ℕ) (graded : M → Graded)
     (coordinate : M → E → ℕ → ℕ) (p d : ℕ) (ms : List M) (es : List E) →
@@ -141,4 +147,4 @@ pub tuple_numbers : {M E : Type 0} (is_element : M → E → Type 0) (degree : M
 tuple_numbers is_element degree graded coordinate p d ms es small is i inside =
     joined_each (λ z. z < p) (λ m. (graded m).dim d) coordinate ms es is.sized
     (λ k j m e here below. let part = is.each k m e here in
-        small (get_or ms k m) (get_or es k e) part.0 j (rw part.1 below)) i (rw (direct_sum_dim graded d ms) at inside)
+    small (get_or ms k m) (get_or es k e) part.0 j (rw part.1 below)) i (rw (direct_sum_dim graded d ms) at inside)

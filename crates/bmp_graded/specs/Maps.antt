@@ -26,7 +26,7 @@ project_one p r l c d u i = normal_by p (suc r) l c d (λ e. u (place (suc r) e)
 abbrev pub projection : ℕ → ℕ → ℕ → (ℕ → ℕ) → List ℕ → ℕ → (ℕ → ℕ) → ℕ → ℕ
 projection p r l c gs d =
     blockwise (λ g. (moved g (polynomials (suc r))).dim d)
-        (λ g. (moved g (reduced r l (normal_by p (suc r) l c))).dim d)
+    (λ g. (moved g (reduced r l (normal_by p (suc r) l c))).dim d)
     (λ g. project_one p r l c (d - g)) gs
 
 unfoldable pub multiples : ℕ → Graded → ℕ → (ℕ → ℕ) → ℕ → (ℕ → ℕ) → ℕ → ℕ

@@ -16,8 +16,10 @@ unfoldable pub polynomials : ℕ → Graded
 polynomials r = record { dim = count r; act = λ m d t v i. shift m (λ e. v (place r e)) (exponents 6 r t i) }
 
 unfoldable pub moved : ℕ → Graded → Graded
-moved g M = record { dim = λ d. cond (leb g d) (M.dim (d - g)) 0;
-    act = λ m d t v i. cond (leb g d) (M.act m (d - g) (t - g) v i) 0 }
+moved g M = record {
+  dim = λ d. cond (leb g d) (M.dim (d - g)) 0;
+  act = λ m d t v i. cond (leb g d) (M.act m (d - g) (t - g) v i) 0;
+}
 
 unfoldable pub nothing : Graded
 nothing = record { dim = λ d. 0; act = λ m d t v i. 0 }

@@ -23,7 +23,7 @@ pass p r l c d a (suc n) =
     let e = exponents 6 r d n in
     let b = pass p r l c d a n in
     cond (eqb (slice_index e l) 0) b
-        (λ m. b m + ((p - 1) * (b e * inverse_below p (c l) p)) * times_label r c (unit_form r (lowered l e)) m)
+    (λ m. b m + ((p - 1) * (b e * inverse_below p (c l) p)) * times_label r c (unit_form r (lowered l e)) m)
 
 abbrev pub normal_by : ℕ → ℕ → ℕ → (ℕ → ℕ) → ℕ → Form → Form
 normal_by p r l c d a = pass p r l c d a (count r d)

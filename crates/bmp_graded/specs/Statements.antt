@@ -58,7 +58,7 @@ MapsAreDetermined = (p r : ℕ) (M : Graded) (degrees : List ℕ) (map map' : �
     → r ≤ 6 → IsModule p r M → IsModuleMap p r (free r degrees) M map → IsModuleMap p r (free r degrees) M map'
     → ((g : ℕ) → g < length degrees → IsGenerator r degrees g (v g)
     × SameVector p (M.dim (slice_index degrees g)) (map (slice_index degrees g) (v g))
-        (map' (slice_index degrees g) (v g)))
+    (map' (slice_index degrees g) (v g)))
     → (d : ℕ) (u : ℕ → ℕ) → SameVector p (M.dim d) (map d u) (map' d u)
 
 abbrev pub QuotientEqualityIsDivisibility : Type 0

@@ -22,7 +22,7 @@ pub record IsTuple {M E : Type 0} (is_element : M → E → Type 0) (degree : M 
   pub sized : length es ≡ length ms
   pub each : (k : ℕ) (m : M) (e : E) → k < length ms
       → is_element (slice_index_or ms k m) (slice_index_or es k e) ×
-          (degree (slice_index_or ms k m) (slice_index_or es k e) ≡ d)
+      (degree (slice_index_or ms k m) (slice_index_or es k e) ≡ d)
 
 unfoldable pub joined_coordinates : {M E : Type 0} → (M → ℕ) → (M → E → ℕ → ℕ) → List M → List E → ℕ → ℕ
 joined_coordinates dim coordinate [] es i = 0

@@ -78,7 +78,7 @@ rows_same p low_row high_row u v start first last below is_start is_first is_las
     let high : ℕ = sum_by (λ e. e.value * v e.place) high_row in
     let places : ℕ = sum_by (λ e. u e.place) low_row in
     let both : sum_by (λ e. e.value * u e.place) low_row + signed_sum true p low_row u
-        ≡ p * sum_by (λ e. u e.place) low_row =
+    ≡ p * sum_by (λ e. u e.place) low_row =
     row_and_minus p low_row u below in
     let begun : first % p ≡ sum_by (λ e. e.value * v e.place) high_row % p =
     is_first ∙ ap (λ z. z % p) (nothing_before start (signed_sum false p high_row v) is_start) in
@@ -186,7 +186,7 @@ agreeing_covers G over F x d list e wide agree values r c =
     let cover = element_of G.rank (F.degrees x) d (vector_at e.covers r.index) in
     let own = tuples_in G F d list r.index x in
     let same : SameElement G.prime G.rank (F.degrees x) d
-        (element_of G.rank (F.degrees x) d (vector_at e.covers r.index))
+    (element_of G.rank (F.degrees x) d (vector_at e.covers r.index))
     (tuples_in G F d list r.index x) =
     element_respects G.prime G.rank (F.degrees x) d (vector_at e.covers j) (list.value j x) wide
     (λ k below. ap (λ z. z % G.prime) (sym (values j k c.tuple below))) in
@@ -195,7 +195,7 @@ agreeing_covers G over F x d list e wide agree values r c =
     (λ f is_edge starts.
     lift_same G F f d cover own wide
     (subst (λ y. SameElement G.prime G.rank (F.degrees y) d
-        (element_of G.rank (F.degrees x) d (vector_at e.covers r.index))
+    (element_of G.rank (F.degrees x) d (vector_at e.covers r.index))
     (tuples_in G F d list r.index x)) (sym starts) same))
     r.place c.place
     ∙ agree j r.place c.tuple c.place

@@ -106,7 +106,7 @@ spread_sum n p c {r} {es} {more} {w} seen sum = record {
 
 pub sum_kept : (n p c : ℕ) {r : List ℕ} {es more w : List Entry} → n ≡ length r → AreEntriesOf p r es →
     FitsBelow more (length r) → IsEntrySum p c es more w → n < 4294967296 → (n < 4294967296) ×
-        (IsSparse w × FitsBelow w n)
+    (IsSparse w × FitsBelow w n)
 sum_kept n p c {r} {es} {more} {w} columns entries fits sum limit = (
   limit,
   (sum.sparse, subst (FitsBelow w) (sym columns) (sum_fits p c (length r) es more w entries.fits fits sum)),
@@ -165,7 +165,7 @@ cut_from at n list k l = get_or-take n (drop at list) k 0 l ∙ get_or-drop at l
 pub sum_behind : (p c start : ℕ) (more : List ℕ) {old new into : List ℕ} → length new ≡ length old →
     length more ≡ length old → ((j : ℕ) → j < start → get_or more j 0 ≡ 0) → AreBelow p old →
     IsMultipleAdded p c (take (length more - start) (drop start more)) (take (length old - start) (drop start old)) into
-        →
+    →
     ((j : ℕ) → j < start → get_or new j 0 ≡ get_or old j 0) →
     ((k : ℕ) → k < length into → get_or new (start + k) 0 ≡ get_or into k 0) →
     IsRowSum p c old (slice_index more) new
@@ -184,7 +184,7 @@ sum_behind p c start more {old} {new} {into} sized as_many zero below added befo
         let count : length (take (length old - start) (drop start old)) ≡ length old - start =
         length-take-le (length old - start) (drop start old) (omega arith) in
         ap (λ m. get_or new m 0) (sym at) ∙ from k (omega (arith, inside, count, added.length_is))
-            ∙ added.added k (omega (arith, inside, count))
+        ∙ added.added k (omega (arith, inside, count))
         ∙ ap₂ (λ x y. (x + c * y) % p)
         (cut_from start (length old - start) old k inside ∙ ap (λ m. get_or old m 0) at)
         (cut_from start (length more - start) more k (omega arith) ∙ ap (λ m. get_or more m 0) at)
@@ -197,7 +197,7 @@ module _ (p f : ℕ) (more ts : List ℕ) (sized : length ts ≡ p * length more
     pub multiple_room : f * length more + length more ≤ length ts
     multiple_room =
         let ends : f * length more + length more ≤ p * length more = row_ends f p (length more) l in
-            omega (arith, ends, sized)
+        omega (arith, ends, sized)
 
     abbrev multiple : List ℕ
     multiple = take (f * length more + length more - f * length more) (drop (f * length more) ts)

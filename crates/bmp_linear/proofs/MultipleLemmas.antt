@@ -87,7 +87,7 @@ reduced_term p a b = same_add p a a (b % p) b refl (mod-mod b p)
 -- the multiple before that by c, and the list once more, are the multiple by c
 module _ (p c : ℕ) (list table mid new : List ℕ) (past : 0 < c)
     (copied : (j : ℕ) → j < length list → get_or mid (c * length list + j) 0 ≡ get_or table ((c - 1) * length list + j)
-        0)
+    0)
     (h : AreMultiples p c list table)
   where
     next_is : c - 1 + 1 ≡ c

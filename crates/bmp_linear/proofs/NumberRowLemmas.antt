@@ -346,15 +346,15 @@ module _ (t : NumberRows) (cols : ℕ) (rows : List (List ℕ)) (seen : record {
         AreMultiplesAdded p (matrix_of_rows t) (rows_matrix cols (set items from pivot)) from c
     table_summed mid items same count p c h =
         subst (λ (u : NumberRows). AreMultiplesAdded p (matrix_of_rows u) (rows_matrix cols (set items from pivot)) from
-            c)
+        c)
         seen
         (subst (λ xs. AreMultiplesAdded p (rows_matrix cols rows) (rows_matrix cols (set xs from pivot)) from c)
-            (sym same)
+        (sym same)
         (subst (λ (x : List ℕ). AreMultiplesAdded p (rows_matrix cols rows) (rows_matrix cols (set mid from x)) from c)
         (sym is_pivot)
         (back_summed cols rows from z below mid count p c lengths
         (subst (λ (x : List ℕ). AreRowsSummedBelow (length (set rows from z)) p from c (slice_index x) (set rows from z)
-            mid)
+        mid)
         is_pivot h))))
 
     -- the shape of the rows once the row is put back

@@ -161,8 +161,8 @@ pub trait RowSpace<F: Field>: Rows<F> + Drop {
         requires row { i < (Self.matrix self.old).rows }
         requires factor { F.is_value f.now c }
         requires not_zero { F.num f.now c ≢ 0 }
-        ensures multiplied
-            { IsRowMultiplied (F.size f.now) (Self.matrix self.old) (Self.matrix self.new) i (F.num f.now c) }
+        ensures multiplied { IsRowMultiplied (F.size f.now) (Self.matrix self.old) (Self.matrix self.new) i
+            (F.num f.now c) }
         ensures numbers { NumbersBelow (F.size f.now) (Self.matrix self.new) };
 
     /// Exchanges two rows.

@@ -31,9 +31,13 @@ module _ {E : Type 0} (is_value : E → Type 0) (num : E → ℕ) (p : ℕ) (X :
       start + (moved (get_or xs k 0) X).dim d ≤ length numbers
   acted_inside xs k start out same inside sized h =
       let here : k < length gs = rw (← same) inside in
-      rw same (omega (arith,
-          walked_inside is_value num p (block_dim X d) (block_dim X (d + sum m)) (block_act X m d (d + sum m)) gs
-          (coefficient num numbers) k start out here h, sized, copies_dim X d gs))
+      rw same (omega (
+        arith,
+        walked_inside is_value num p (block_dim X d) (block_dim X (d + sum m)) (block_act X m d (d + sum m)) gs
+            (coefficient num numbers) k start out here h,
+        sized,
+        copies_dim X d gs,
+      ))
 
   pub acted_more : (r : ℕ) (xs : List ℕ) (k start end : ℕ) (ys out new : List E) (h : ℕ → ℕ) → IsModule p r X →
       IsMonomial 6 r (sum m) m → ((a : E) → is_value a → num a < p) → xs ≡ gs → ys ≡ numbers → k < length xs →
@@ -45,13 +49,13 @@ module _ {E : Type 0} (is_value : E → Type 0) (num : E → ℕ) (p : ℕ) (X :
   acted_more r xs k start end ys out new h laws is_m small same same_numbers inside end_is block agree so_far =
       let here : k < length gs = rw (← same) inside in
       walked_more is_value num p (block_dim X d) (block_dim X (d + sum m)) (block_act X m d (d + sum m)) gs
-          (coefficient num numbers) k start end (get_or xs k 0) out new h
+      (coefficient num numbers) k start end (get_or xs k 0) out new h
       here (ap (λ z. get_or z k 0) same) end_is small block
       (λ i below. agree i below
       ∙ ((moved_is_module p r (get_or xs k 0) X laws).linear m (sum m) d (d + sum m) is_m refl).respects
-          (coefficient num (slice_range ys start end)) (λ i. coefficient num numbers (start + i))
+      (coefficient num (slice_range ys start end)) (λ i. coefficient num numbers (start + i))
       (λ j below. ap (λ z. z % p) (coefficient_range num ys start end j (omega arith)
-          ∙ ap (λ z. coefficient num z (start + j)) same_numbers)) i below)
+      ∙ ap (λ z. coefficient num z (start + j)) same_numbers)) i below)
       so_far
 
   pub acted_element : (xs : List ℕ) (k start : ℕ) (out : List E) → xs ≡ gs → length xs ≤ k → d + sum m ≤ 6 →
@@ -68,6 +72,6 @@ module _ {E : Type 0} (is_value : E → Type 0) (num : E → ℕ) (p : ℕ) (X :
       coefficient num out i ≡ (copies X gs).act m d (d + sum m) (coefficient num numbers) i % p
   acted_numbers xs k start out same past h i below =
       let all = walked_end is_value num p (block_dim X d) (block_dim X (d + sum m)) (block_act X m d (d + sum m)) gs
-          (coefficient num numbers) k start out (rw (← same) past) h in
+      (coefficient num numbers) k start out (rw (← same) past) h in
       h.done i (omega (arith, all, copies_dim X (d + sum m) gs))
-          ∙ ap (λ z. z % p) (sym (copies_act X m d (d + sum m) gs (coefficient num numbers) i))
+      ∙ ap (λ z. z % p) (sym (copies_act X m d (d + sum m) gs (coefficient num numbers) i))

@@ -33,13 +33,13 @@ module _ (rows : ℕ) (number : ℕ → ℕ → ℕ) where
         each = λ j i below inside. elim (cases_eq j n) [
           | inl here ↦
               let at : length old + (j * rows + i) ≡ length now + i = ap (λ z. length old + (z * rows + i)) here
-                  ∙ omega (arith, sized) in
+              ∙ omega (arith, sized) in
               ap (slice_index (now ++ column)) at ∙ get_or-append-add now column i 0
-                  ∙ numbers i (omega (arith, inside, one)) ∙ ap (λ z. number z i) (sym here)
+              ∙ numbers i (omega (arith, inside, one)) ∙ ap (λ z. number z i) (sym here)
           | inr other ↦
               let earlier : j < n = omega arith in
               let within : length old + (j * rows + i) < length now =
-                  omega (arith, sized, mul-add-lt j rows i n earlier inside) in
+              omega (arith, sized, mul-add-lt j rows i n earlier inside) in
               get_or_append_left now column 0 (length old + (j * rows + i)) within ∙ h.each j i earlier inside
         ];
       }
@@ -56,14 +56,14 @@ module _ (rows : ℕ) (number : ℕ → ℕ → ℕ) where
         each = λ j i below inside. elim (cases_lt j m) [
           | inl before ↦
               let within : length old + (j * rows + i) < length mid =
-                  omega (arith, first, mul-add-lt j rows i m before inside) in
+              omega (arith, first, mul-add-lt j rows i m before inside) in
               f.kept (length old + (j * rows + i)) within ∙ h.each j i before inside
           | inr from ↦
               let whole : m + (j - m) ≡ j = omega (arith, from) in
               let at : length old + (j * rows + i) ≡ length mid + ((j - m) * rows + i) =
-                  ap (λ z. length old + (z * rows + i)) (sym whole) ∙ omega (arith, first) in
+              ap (λ z. length old + (z * rows + i)) (sym whole) ∙ omega (arith, first) in
               ap (slice_index new) at ∙ f.each (j - m) i (omega (arith, below, from)) inside
-                  ∙ ap (λ z. number z i) whole
+              ∙ ap (λ z. number z i) whole
         ];
       }
 
@@ -86,7 +86,7 @@ one_column n f old new h =
       kept = h.kept;
       each = λ j i below inside.
           let at : length old + (j * n + i) ≡ length old + (i * 1 + 0) = let first : j ≡ 0 = omega (arith, below) in
-              ap (λ z. length old + (z * n + i)) first ∙ omega arith in
+          ap (λ z. length old + (z * n + i)) first ∙ omega arith in
           ap (slice_index new) at ∙ h.each i 0 inside (omega arith);
     }
 
@@ -95,24 +95,24 @@ pub number_pushed : (n : ℕ) (f : ℕ → ℕ) (old now : List ℕ) (x : ℕ) �
 number_pushed n f old now x h x_is =
     column_pushed 1 (λ j i. f j) n old now (x ∷ []) h refl
     (λ i below. let bound : i < suc 0 = below in let first : i ≡ 0 = omega (arith, bound) in
-        ap (slice_index (x ∷ [])) first ∙ x_is)
+    ap (slice_index (x ∷ [])) first ∙ x_is)
 
 -- a column more: a monomial times the element w of degree a
 pub multiple_pushed : (p r d a n dm : ℕ) (M : Graded) (m : List ℕ) (w x : ℕ → ℕ) (old mid new : List ℕ) → a ≤ d →
     m ≡ exponents 6 r (d - a) n → sum m ≡ d - a → dm ≡ a + sum m →
     ((i : ℕ) → i < M.dim (a + sum m) → x i ≡ M.act m a (a + sum m) w i % p) → HasColumns (M.dim dm) 1 (λ j. x) mid new →
     HasColumns (M.dim d) n (λ j i. M.act (exponents 6 r (d - a) j) a d w i % p) old mid →
-        HasColumns (M.dim d) (n + 1) (λ j i. M.act (exponents 6 r (d - a) j) a d w i % p) old new
+    HasColumns (M.dim d) (n + 1) (λ j i. M.act (exponents 6 r (d - a) j) a d w i % p) old new
 multiple_pushed p r d a n dm M m w x old mid new within m_is size dm_is x_is last h =
     let raised : a + sum m ≡ d = omega (arith, size, within) in
     let whole : dm ≡ d = dm_is ∙ raised in
     let numbers : (i : ℕ) → i < M.dim d → x i ≡ M.act m a d w i % p =
-        subst (λ z. (i : ℕ) → i < M.dim z → x i ≡ M.act m a z w i % p) raised x_is in
+    subst (λ z. (i : ℕ) → i < M.dim z → x i ≡ M.act m a z w i % p) raised x_is in
     columns_joined (M.dim d) (λ j i. M.act (exponents 6 r (d - a) j) a d w i % p) n 1 old mid new h
     (columns_as (M.dim d) 1 1 (λ j. x) (λ j i. M.act (exponents 6 r (d - a) (n + j)) a d w i % p) mid new refl
     (λ j i below inside. let here : n ≡ n + j = omega (arith, below) in
-        numbers i inside ∙ ap (λ z. M.act z a d w i % p) m_is
-        ∙ ap (λ z. M.act (exponents 6 r (d - a) z) a d w i % p) here)
+    numbers i inside ∙ ap (λ z. M.act z a d w i % p) m_is
+    ∙ ap (λ z. M.act (exponents 6 r (d - a) z) a d w i % p) here)
     (subst (λ z. HasColumns (M.dim z) 1 (λ j. x) mid new) whole last))
 
 -- all monomials of the degree
@@ -141,18 +141,18 @@ module _ (p r d : ℕ) (M : Graded) (gs : List ℕ) (ws : ℕ → ℕ → ℕ) w
   pub extension_more : (h a : ℕ) (w : ℕ → ℕ) (mid new : List ℕ) → h < length gs → a ≡ get_or gs h 0 → w ≡ ws h →
       HasColumns (M.dim d) (start_of r gs d h) entry [] mid →
       HasColumns (M.dim d) ((moved a (polynomials r)).dim d) (λ j i. M.act (exponents 6 r (d - a) j) a d w i % p) mid
-          new → HasColumns (M.dim d) (start_of r gs d (h + 1)) entry [] new
+      new → HasColumns (M.dim d) (start_of r gs d (h + 1)) entry [] new
   extension_more h a w mid new inside a_is w_is so_far last =
       let next : start_of r gs d (h + 1) ≡ start_of r gs d h + (moved (get_or gs h 0) (polynomials r)).dim d =
-          start_more r d h gs inside in
+      start_more r d h gs inside in
       let sizes : (moved a (polynomials r)).dim d ≡ (moved (get_or gs h 0) (polynomials r)).dim d =
-          ap (λ z. (moved z (polynomials r)).dim d) a_is in
+      ap (λ z. (moved z (polynomials r)).dim d) a_is in
       columns_as (M.dim d) (start_of r gs d h + (moved (get_or gs h 0) (polynomials r)).dim d) (start_of r gs d (h + 1))
-          entry entry [] new (sym next) (λ j i below within. refl)
+      entry entry [] new (sym next) (λ j i below within. refl)
       (columns_joined (M.dim d) entry (start_of r gs d h) ((moved (get_or gs h 0) (polynomials r)).dim d) [] mid new
-          so_far
+      so_far
       (columns_as (M.dim d) ((moved a (polynomials r)).dim d) ((moved (get_or gs h 0) (polynomials r)).dim d)
-          (λ j i. M.act (exponents 6 r (d - a) j) a d w i % p) (λ j. entry (start_of r gs d h + j)) mid new sizes
+      (λ j i. M.act (exponents 6 r (d - a) j) a d w i % p) (λ j. entry (start_of r gs d h + j)) mid new sizes
       (λ j i below within.
       let at = moved_within (get_or gs h 0) j below in
       ap₂ (λ z (v : ℕ → ℕ). M.act (exponents 6 r (d - z) j) z d v i % p) a_is w_is
@@ -170,4 +170,4 @@ module _ (p r d : ℕ) (M : Graded) (gs : List ℕ) (ws : ℕ → ℕ → ℕ) w
       let all : n ≡ length gs = omega arith in
       columns_as (M.dim d) (start_of r gs d n) ((free r gs).dim d) entry entry [] new
       (ap (start_of r gs d) all ∙ total_front (block_dim (polynomials r) d) gs ∙ sym (copies_dim (polynomials r) d gs))
-          (λ j i below inside. refl) h
+      (λ j i below inside. refl) h

@@ -22,7 +22,7 @@ contains_each (x ∷ e) (y ∷ m) l h =
     let sizes : suc (length e) ≡ suc (length m) = l in
     let first : 0 < suc (length m) = omega arith in
     and_from (leb y x) (contains e m) (le-leb y x (h 0 first))
-        (contains_each e m (omega arith) (λ k b. let deeper : suc k < suc (length m) = omega arith in h (suc k) deeper))
+    (contains_each e m (omega arith) (λ k b. let deeper : suc k < suc (length m) = omega arith in h (suc k) deeper))
 
 and_left_false : (s t : Bool) → s ≡ false → (s && t) ≡ false
 and_left_false s t h = rw h refl

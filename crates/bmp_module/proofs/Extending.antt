@@ -32,7 +32,7 @@ pub added_term : (p x c y t r : ℕ) (new : ℕ) → t ≡ y % p → r ≡ (c * 
 added_term p x c y t r new t_is r_is new_is =
     new_is
     ∙ same_add p x x r (c * y) refl (ap (λ z. z % p) r_is ∙ mod-mod (c * t) p
-        ∙ same_mul p c c t y refl (ap (λ z. z % p) t_is ∙ mod-mod y p))
+    ∙ same_mul p c c t y refl (ap (λ z. z % p) t_is ∙ mod-mod y p))
 
 -- one term more of a sum that is kept modulo p
 pub sum_more : (p x s y : ℕ) (now new : ℕ) → now ≡ (x + s) % p → new ≡ (now + y) % p → new ≡ (x + (s + y)) % p
@@ -82,9 +82,9 @@ module _ (p r : ℕ) (M : Graded) (gs : List ℕ) (ws : ℕ → ℕ → ℕ) (d 
         source = omega arith;
         sums = λ j l.
             let rest : extension r M gs (λ h. ws (0 + h)) d (λ i. u (0 + i)) j ≡ extension r M gs ws d u j =
-                ap₂ (λ (a : ℕ → ℕ → ℕ) (b : ℕ → ℕ). extension r M gs a d b j) images numbers in
+            ap₂ (λ (a : ℕ → ℕ → ℕ) (b : ℕ → ℕ). extension r M gs a d b j) images numbers in
             let all : extension r M gs ws d u j ≡ v j + extension r M gs (λ h. ws (0 + h)) d (λ i. u (0 + i)) j =
-                omega (arith, none j l, rest) in
+            omega (arith, none j l, rest) in
             ap (λ z. z % p) all;
       }
 
@@ -101,53 +101,53 @@ module _ (p r : ℕ) (M : Graded) (gs : List ℕ) (ws : ℕ → ℕ → ℕ) (d 
   extended_more v v' k start end g w b wide laws inside g_is w_is end_is block added h =
       let here : k + 0 ≡ k = omega arith in
       let images : (λ (h : ℕ). ws (k + suc h)) ≡ (λ (h : ℕ). ws ((k + 1) + h)) =
-          fun_ext (λ h. let same : k + suc h ≡ (k + 1) + h = omega arith in ap ws same) in
+      fun_ext (λ h. let same : k + suc h ≡ (k + 1) + h = omega arith in ap ws same) in
       let numbers : (λ (i : ℕ). u (start + ((moved (get_or gs k 0) (polynomials r)).dim d + i)))
-          ≡ (λ (i : ℕ). u (end + i)) =
-          fun_ext (λ i. let size : (moved (get_or gs k 0) (polynomials r)).dim d ≡ (moved g (polynomials r)).dim d = ap
-          (λ z. (moved z (polynomials r)).dim d) (sym g_is) in
-          let same : start + ((moved (get_or gs k 0) (polynomials r)).dim d + i) ≡ end + i = omega arith in
-          ap u same) in
+      ≡ (λ (i : ℕ). u (end + i)) =
+      fun_ext (λ i. let size : (moved (get_or gs k 0) (polynomials r)).dim d ≡ (moved g (polynomials r)).dim d = ap
+      (λ z. (moved z (polynomials r)).dim d) (sym g_is) in
+      let same : start + ((moved (get_or gs k 0) (polynomials r)).dim d + i) ≡ end + i = omega arith in
+      ap u same) in
       record {
         source = let more = total_rest (block_dim (polynomials r) d) gs k 0 inside in let size :
             (moved g (polynomials r)).dim d ≡ (moved (get_or gs k 0) (polynomials r)).dim d =
             ap (λ z. (moved z (polynomials r)).dim d) g_is in omega (arith, h.source, more);
         sums = λ j l.
             let split : extension r M (drop k gs) (λ h. ws (k + h)) d (λ i. u (start + i)) j
-                ≡ multiples r M g w d (λ i. u (start + i)) j + extension r M (drop (k + 1) gs) (λ h. ws ((k + 1) + h)) d
-                (λ i. u (end + i)) j =
+            ≡ multiples r M g w d (λ i. u (start + i)) j + extension r M (drop (k + 1) gs) (λ h. ws ((k + 1) + h)) d
+            (λ i. u (end + i)) j =
             extension_rest r M gs (λ h. ws (k + h)) d (λ i. u (start + i)) k j inside
             ∙ ap₂ (λ a c. a + c)
             (ap (λ z. multiples r M z (ws (k + 0)) d (λ i. u (start + i)) j) (sym g_is)
-                ∙ ap (λ z. multiples r M g z d (λ i. u (start + i)) j) (ap ws here ∙ sym w_is))
+            ∙ ap (λ z. multiples r M g z d (λ i. u (start + i)) j) (ap ws here ∙ sym w_is))
             (ap₂ (λ (a : ℕ → ℕ → ℕ) (c : ℕ → ℕ). extension r M (drop (k + 1) gs) a d c j) images numbers) in
             let same : SameMod p (multiples r M g w d (λ i. u (start + i)) j) (multiples r M g w d b j) =
-                ((one_map p r g wide M laws w).linear d).respects (λ i. u (start + i)) b
-                (λ i inner. ap (λ z. z % p) (sym (block i inner))) j l in
+            ((one_map p r g wide M laws w).linear d).respects (λ i. u (start + i)) b
+            (λ i inner. ap (λ z. z % p) (sym (block i inner))) j l in
             let around : v j + (multiples r M g w d b j + extension r M (drop (k + 1) gs) (λ h. ws ((k + 1) + h)) d
-                (λ i. u (end + i)) j) ≡ (v j + multiples r M g w d b j) + extension r M (drop (k + 1) gs)
-                (λ h. ws ((k + 1) + h)) d (λ i. u (end + i)) j = omega arith in
+            (λ i. u (end + i)) j) ≡ (v j + multiples r M g w d b j) + extension r M (drop (k + 1) gs)
+            (λ h. ws ((k + 1) + h)) d (λ i. u (end + i)) j = omega arith in
             h.sums j l ∙ ap (λ z. (v j + z) % p) split
             ∙ same_add p (v j) (v j)
-                (multiples r M g w d (λ i. u (start + i)) j + extension r M (drop (k + 1) gs) (λ h. ws ((k + 1) + h)) d
-                (λ i. u (end + i)) j)
-                (multiples r M g w d b j + extension r M (drop (k + 1) gs) (λ h. ws ((k + 1) + h)) d (λ i. u (end + i))
-                j) refl
+            (multiples r M g w d (λ i. u (start + i)) j + extension r M (drop (k + 1) gs) (λ h. ws ((k + 1) + h)) d
+            (λ i. u (end + i)) j)
+            (multiples r M g w d b j + extension r M (drop (k + 1) gs) (λ h. ws ((k + 1) + h)) d (λ i. u (end + i))
+            j) refl
             (same_add p (multiples r M g w d (λ i. u (start + i)) j) (multiples r M g w d b j)
-                (extension r M (drop (k + 1) gs) (λ h. ws ((k + 1) + h)) d (λ i. u (end + i)) j)
-                (extension r M (drop (k + 1) gs) (λ h. ws ((k + 1) + h)) d (λ i. u (end + i)) j) same refl)
+            (extension r M (drop (k + 1) gs) (λ h. ws ((k + 1) + h)) d (λ i. u (end + i)) j)
+            (extension r M (drop (k + 1) gs) (λ h. ws ((k + 1) + h)) d (λ i. u (end + i)) j) same refl)
             ∙ ap (λ z. z % p) around
             ∙ same_add p (v j + multiples r M g w d b j) (v' j)
-                (extension r M (drop (k + 1) gs) (λ h. ws ((k + 1) + h)) d (λ i. u (end + i)) j)
-                (extension r M (drop (k + 1) gs) (λ h. ws ((k + 1) + h)) d (λ i. u (end + i)) j)
-                (sym (ap (λ z. z % p) (added j l) ∙ mod-mod (v j + multiples r M g w d b j) p)) refl;
+            (extension r M (drop (k + 1) gs) (λ h. ws ((k + 1) + h)) d (λ i. u (end + i)) j)
+            (extension r M (drop (k + 1) gs) (λ h. ws ((k + 1) + h)) d (λ i. u (end + i)) j)
+            (sym (ap (λ z. z % p) (added j l) ∙ mod-mod (v j + multiples r M g w d b j) p)) refl;
       }
 
   pub extended_end : (v : ℕ → ℕ) (k start : ℕ) → length gs ≤ k → ((j : ℕ) → j < M.dim d → v j < p) →
       Extended p r M gs ws d u v k start → (j : ℕ) → j < M.dim d → v j ≡ extension r M gs ws d u j % p
   extended_end v k start past small h j l =
       let none : extension r M (drop k gs) (λ h. ws (k + h)) d (λ i. u (start + i)) j ≡ 0 =
-          extension_none r M gs (λ h. ws (k + h)) d (λ i. u (start + i)) k j past in
+      extension_none r M gs (λ h. ws (k + h)) d (λ i. u (start + i)) k j past in
       let all : v j + extension r M (drop k gs) (λ h. ws (k + h)) d (λ i. u (start + i)) j ≡ v j = omega arith in
       sym (mod-eq_of_lt (small j l)) ∙ sym (h.sums j l ∙ ap (λ z. z % p) all)
 
@@ -182,11 +182,11 @@ multiple_more p r M d g i dl di c m w u x now new dl_is di_is m_is c_is added so
     let there : j < M.dim dl = rw dl_is l in
     let same : c * M.act m di dl w j ≡ u i * M.act (exponents 6 r (d - g) i) g d w j =
     ap₂ (λ a b. a * b) c_is (ap (λ z. M.act z di dl w j) m_is ∙ ap (λ z. M.act (exponents 6 r (d - g) i) z dl w j) di_is
-        ∙ ap (λ z. M.act (exponents 6 r (d - g) i) g z w j) dl_is) in
+    ∙ ap (λ z. M.act (exponents 6 r (d - g) i) g z w j) dl_is) in
     let step : new j ≡ (now j + u i * M.act (exponents 6 r (d - g) i) g d w j) % p =
-        added j there ∙ ap (λ z. (now j + z) % p) same in
+    added j there ∙ ap (λ z. (now j + z) % p) same in
     sum_more p (x j) (sum_below (λ a. u a * M.act (exponents 6 r (d - g) a) g d w j) i)
-        (u i * M.act (exponents 6 r (d - g) i) g d w j) (now j) (new j) (so_far j l) step
+    (u i * M.act (exponents 6 r (d - g) i) g d w j) (now j) (new j) (so_far j l) step
     ∙ ap (λ z. (x j + z) % p) (sym (sum_below_more (λ a. u a * M.act (exponents 6 r (d - g) a) g d w j) i))
 
 pub multiples_end : (p r : ℕ) (M : Graded) (d g n : ℕ) (w u : ℕ → ℕ) (j x new : ℕ) → g ≤ d → n ≡ count r (d - g) →

@@ -25,7 +25,7 @@ rest_is r degree i e m rest wide inside e_is is_m division =
     let total : sum (less e m) + sum m ≡ sum e = sum-less e m (is_e.long ∙ sym is_m.long) division.0 in
     let fits : sum m ≤ degree = omega (arith, is_e.size) in
     let is_rest : IsMonomial 6 r (degree - sum m) rest =
-        rw division.1 (less_monomial 6 r (degree - sum m) (sum m) degree e m is_e is_m (omega arith) division.0) in
+    rw division.1 (less_monomial 6 r (degree - sum m) (sum m) degree e m is_e is_m (omega arith) division.0) in
     record { fits = fits; monomial = is_rest; below = place_below 6 r (degree - sum m) rest wide is_rest }
 
 pub multiple_read : {E : Type 0} (num : E → ℕ) (r degree i index : ℕ) (e m rest : List ℕ) (block : List E) (x : E) →
@@ -36,7 +36,7 @@ multiple_read num r degree i index e m rest block x e_is division index_is insid
     sym (ap (shift m (λ e. coefficient num block (place r e))) (sym e_is)
     ∙ cond-true {A = ℕ} (contains e m) (coefficient num block (place r (less e m))) 0 division.0
     ∙ ap (λ z. coefficient num block (place r z)) (sym division.1) ∙ ap (coefficient num block) (sym index_is)
-        ∙ coefficient_read num block index x inside x_is)
+    ∙ coefficient_read num block index x inside x_is)
 
 -- a monomial of lower degree is not divisible
 contains_short : (e m : List ℕ) → length e ≡ length m → sum e < sum m → contains e m ≡ false
@@ -52,13 +52,13 @@ unfolding moved polynomials
 moved_act r g d i m v wide is_m from inside = elim (cases_lt d g) [
   | inl early ↦
       let stands : StandsAt 6 r ((d + sum m) - g) i (exponents 6 r ((d + sum m) - g) i) =
-          exponents_stand 6 r ((d + sum m) - g) i wide inside in
+      exponents_stand 6 r ((d + sum m) - g) i wide inside in
       let short : sum (exponents 6 r ((d + sum m) - g) i) < sum m = omega (arith, stands.monomial.size) in
       cond-false {A = ℕ} (contains (exponents 6 r ((d + sum m) - g) i) m)
-          (v (place r (less (exponents 6 r ((d + sum m) - g) i) m))) 0
-          (contains_short (exponents 6 r ((d + sum m) - g) i) m (stands.monomial.long ∙ sym is_m.long) short)
+      (v (place r (less (exponents 6 r ((d + sum m) - g) i) m))) 0
+      (contains_short (exponents 6 r ((d + sum m) - g) i) m (stands.monomial.long ∙ sym is_m.long) short)
       ∙ sym (cond-false {A = ℕ} (leb g d) (shift m (λ e. v (place r e)) (exponents 6 r ((d + sum m) - g) i)) 0
-          (lt-leb g d early))
+      (lt-leb g d early))
   | inr late ↦ sym (cond-true {A = ℕ} (leb g d) (shift m (λ e. v (place r e)) (exponents 6 r ((d + sum m) - g) i)) 0
       (le-leb g d late))
 ]

@@ -71,25 +71,25 @@ numbers_more num values n numbers v x h inside read is =
 pub numbers_column : {E : Type 0} (is_value : E → Type 0) (num : E → ℕ) (p q r l s t : ℕ) (c : ℕ → ℕ)
     (old written from made values : List E) (n : ℕ) (numbers : List ℕ) →
     q ≡ p → r ≤ 6 → t < count r s → ((i : ℕ) → coefficient num old i ≡ unit t i) → written ≡ old → from ≡ [] →
-        values ≡ made →
+    values ≡ made →
     IsAppended is_value num from made (count (r - 1) s)
-        (λ i. normal_by p r l c s (form num r written) (insert l (exponents 5 (r - 1) s i)) % q) →
+    (λ i. normal_by p r l c s (form num r written) (insert l (exponents 5 (r - 1) s i)) % q) →
     length values ≤ n → n ≤ length values → AreNumbers num values n numbers → IsNormalColumn p r c l s t numbers
 numbers_column is_value num p q r l s t c old written from made values n numbers sizes wide inside is_unit written_is
     empty values_are h all within numbers_are =
     let sized : length values ≡ 0 + count (r - 1) s =
-        ap length values_are ∙ h.sized ∙ ap (λ xs. length xs + count (r - 1) s) empty in
+    ap length values_are ∙ h.sized ∙ ap (λ xs. length xs + count (r - 1) s) empty in
     let whole : n ≡ count (r - 1) s = omega arith in
     let is_form : (λ m. coefficient num written (place r m)) ≡ unit_form r (exponents 6 r s t) =
-        ap (λ xs. λ m. coefficient num xs (place r m)) written_is
-        ∙ monomial_form (coefficient num old) r s t wide inside is_unit in
+    ap (λ xs. λ m. coefficient num xs (place r m)) written_is
+    ∙ monomial_form (coefficient num old) r s t wide inside is_unit in
     record {
       sized = numbers_are.sized ∙ whole;
       each = λ i l'.
           let start : 0 + i ≡ i = omega arith in
           let at : i ≡ length from + i = sym (ap (λ xs. length xs + i) empty ∙ start) in
           numbers_are.each i (omega arith) ∙ ap (λ xs. coefficient num xs i) values_are ∙ ap (coefficient num made) at
-              ∙ h.added i l'
+          ∙ h.added i l'
           ∙ ap (λ z. normal_by p r l c s (form num r written) (insert l (exponents 5 (r - 1) s i)) % z) sizes
           ∙ ap (λ (a : Form). normal_by p r l c s a (insert l (exponents 5 (r - 1) s i)) % p) is_form;
     }
@@ -108,13 +108,13 @@ module _ (p r l : ℕ) (c : ℕ → ℕ) where
         each = λ t i before inside. elim (cases_eq t n) [
           | inl here ↦
               let at : t * count (r - 1) s + i ≡ length numbers + i = ap (λ k. k * count (r - 1) s + i) here
-                  ∙ omega (arith, sized) in
+              ∙ omega (arith, sized) in
               ap (λ k. get_or (numbers ++ column) k 0) at ∙ get_or-append-add numbers column i 0 ∙ last.each i inside
               ∙ ap (λ k. normal_number p r c l s (unit_form r (exponents 6 r s k)) i) (sym here)
           | inr other ↦
               let earlier : t < n = omega arith in
               let within : t * count (r - 1) s + i < length numbers =
-                  omega (arith, sized, mul-add-lt t (count (r - 1) s) i n earlier inside) in
+              omega (arith, sized, mul-add-lt t (count (r - 1) s) i n earlier inside) in
               get_or_append_left numbers column 0 (t * count (r - 1) s + i) within ∙ h.each t i earlier inside
         ];
       }

@@ -19,7 +19,7 @@ put_right a xs ys inside long last ys_is =
     let past : length (drop a xs) ≤ 6 - a = omega arith in
     let ends : drop (6 - a) (drop a xs) ≡ [] = drop_of_length-le (drop a xs) past in
     let whole : ys ≡ drop (5 - a) (drop a xs) ++ take (5 - a) (drop a xs) =
-        ys_is ∙ ap (λ z. drop (length z - 1) z ++ take (length z - 1) z) mid
-        ∙ ap (λ n. drop n (drop a xs) ++ take n (drop a xs)) one in
+    ys_is ∙ ap (λ z. drop (length z - 1) z ++ take (length z - 1) z) mid
+    ∙ ap (λ n. drop n (drop a xs) ++ take n (drop a xs)) one in
     ap (λ z. take a xs ++ (ys ++ z)) ends ∙ ap (λ z. take a xs ++ z) (append-nil ys) ∙ ap (λ z. take a xs ++ z) whole
-        ∙ rotated_right a 5 xs (omega arith) long last
+    ∙ rotated_right a 5 xs (omega arith) long last

@@ -60,8 +60,8 @@ joined_both f dim coordinate ms old other now size_old size_other size_now each 
     let olds = joined_at dim coordinate ms old at.part at.place m e at.inside size_old (at.below m) in
     let others = joined_at dim coordinate ms other at.part at.place m e at.inside size_other (at.below m) in
     rw at.is (news ∙ each at.part at.place m e at.inside (at.below m)
-        ∙ ap (λ z. f z (coordinate (get_or ms at.part m) (get_or other at.part e) at.place)) (sym olds)
-        ∙ ap (f (joined_coordinates dim coordinate ms old (total dim (take at.part ms) + at.place))) (sym others))
+    ∙ ap (λ z. f z (coordinate (get_or ms at.part m) (get_or other at.part e) at.place)) (sym olds)
+    ∙ ap (f (joined_coordinates dim coordinate ms old (total dim (take at.part ms) + at.place))) (sym others))
 
 -- all places are set: the coordinates of the tuple
 pub changed_coordinates : {M E : Type 0} (f : ℕ → ℕ → ℕ) {Q : ℕ → E → E → Type 0} (graded : M → Graded)
@@ -75,12 +75,12 @@ pub changed_coordinates : {M E : Type 0} (f : ℕ → ℕ → ℕ) {Q : ℕ → 
     (joined_coordinates (λ m. (graded m).dim s) coordinate ms other i)
 changed_coordinates f graded coordinate d s t ms old other now k size_old size_other past same_t same_s h q i inside =
     rw (same_t, same_s)
-        (joined_both f (λ m. (graded m).dim d) coordinate ms old other now size_old size_other (h.sized ∙ size_old)
+    (joined_both f (λ m. (graded m).dim d) coordinate ms old other now size_old size_other (h.sized ∙ size_old)
     (λ p j m a l below. let each = q p j (get_or old p a) (get_or now p a) m l below
-        (h.done p a a (omega (arith, past, l))) in
-        each ∙ ap (λ z. f (coordinate (get_or ms p m) (get_or old p a) j) (coordinate (get_or ms p m) z j))
-        (get_any other p (get_or old p a) a (omega (arith, l, size_other)))) i
-        (rw (direct_sum_dim graded d ms) at inside))
+    (h.done p a a (omega (arith, past, l))) in
+    each ∙ ap (λ z. f (coordinate (get_or ms p m) (get_or old p a) j) (coordinate (get_or ms p m) z j))
+    (get_any other p (get_or old p a) a (omega (arith, l, size_other)))) i
+    (rw (direct_sum_dim graded d ms) at inside))
 
 -- the part k is changed: what was said of what the lists have there is said of the places
 pub changed_part : {M E : Type 0} (is_element : M → E → Type 0) (degree : M → E → ℕ) (dim : M → ℕ → ℕ)
@@ -102,5 +102,5 @@ changed_part is_element degree dim coordinate f d ms old now other k part was ad
     let at_x : get_or other k x ≡ added = get_any other k x added (omega (arith, inside, size_other)) ∙ sym added_is in
     let both = tuple.each k part was inside in
     let first : degree part was ≡ d = ap (λ z. degree z was) part_is ∙ ap (degree (get_or ms k part)) (was_is ∙ left)
-        ∙ both.1 in
+    ∙ both.1 in
     rw (at_m, at_a, at_x) (element, same ∙ first, λ j l. each j (rw first l))

@@ -15,8 +15,8 @@ module _ {M E : Type 0} (is_element : M → E → Type 0) (degree : M → E → 
   abbrev pub PartMultiple : ℕ → E → Type 0
   PartMultiple i e = (m : M) (y : E) → is_element (get_or ms i m) e × (degree (get_or ms i m) e ≡ d + sum x)
       × ((j : ℕ) → j < (graded (get_or ms i m)).dim (d + sum x) →
-          coordinate (get_or ms i m) e j ≡ (graded (get_or ms i m)).act x d (d + sum x)
-          (coordinate (get_or ms i m) (get_or es i y)) j % p)
+      coordinate (get_or ms i m) e j ≡ (graded (get_or ms i m)).act x d (d + sum x)
+      (coordinate (get_or ms i m) (get_or es i y)) j % p)
 
   -- one more part
   pub multiple_more : (out new : List E) (k : ℕ) (m : M) (e r : E) → m ≡ get_or ms k m → e ≡ get_or es k e →
@@ -28,7 +28,7 @@ module _ {M E : Type 0} (is_element : M → E → Type 0) (degree : M → E → 
       let sizes : length es ≡ length ms = is.sized in
       let within : k < length es = omega arith in
       let of_degree : degree m e ≡ d = ap (λ z. degree z e) same_m ∙ ap (degree (get_or ms k m)) same_e
-          ∙ (is.each k m e inside).1 in
+      ∙ (is.each k m e inside).1 in
       rw appended (each_more PartMultiple out k r h
       (λ a y.
       let part : get_or ms k a ≡ m = get_any ms k a m inside ∙ sym same_m in
@@ -48,38 +48,38 @@ module _ {M E : Type 0} (is_element : M → E → Type 0) (degree : M → E → 
       FitEach Fits rank ms → IsMonomial 6 (common_rank (map rank ms)) (sum x) x → IsTuple is_element degree d ms es →
       EachBelow PartMultiple out k
       → j < (graded (get_or ms a m)).dim (d + sum x) →
-          (i : ℕ) → i ≡ total (λ m. (graded m).dim (d + sum x)) (take a ms) + j →
-          joined_coordinates (λ m. (graded m).dim t) coordinate ms out i ≡ (direct_sum (map graded ms)).act x d
-          (d + sum x) (joined_coordinates (λ m. (graded m).dim d) coordinate ms es) i % p
+      (i : ℕ) → i ≡ total (λ m. (graded m).dim (d + sum x)) (take a ms) + j →
+      joined_coordinates (λ m. (graded m).dim t) coordinate ms out i ≡ (direct_sum (map graded ms)).act x d
+      (d + sum x) (joined_coordinates (λ m. (graded m).dim d) coordinate ms es) i % p
   multiple_at Fits rank out k t a j m e y degree_is size here there laws fits is_m is h below i i_is =
       let fit = fits a m here in
       let law : IsModule p (common_rank (map rank ms)) (graded (get_or ms a m)) =
-          rw (← fit.1) (laws (get_or ms a m) fit.0) in
+      rw (← fit.1) (laws (get_or ms a m) fit.0) in
       let part = h.each a e there m y in
       rw (degree_is, i_is)
       (joined_at (λ m. (graded m).dim (d + sum x)) coordinate ms out a j m e here size below
       ∙ part.2 j below
       ∙ sym ((law.linear x (sum x) d (d + sum x) is_m refl).respects
-          (λ b. joined_coordinates (λ m. (graded m).dim d) coordinate ms es
-          (total (λ m. (graded m).dim d) (take a ms) + b)) (coordinate (get_or ms a m) (get_or es a y))
+      (λ b. joined_coordinates (λ m. (graded m).dim d) coordinate ms es
+      (total (λ m. (graded m).dim d) (take a ms) + b)) (coordinate (get_or ms a m) (get_or es a y))
       (λ b low. ap (λ z. z % p) (joined_at (λ m. (graded m).dim d) coordinate ms es a b m y here is.sized low)) j below)
       ∙ ap (λ z. z % p)
-          (sym (direct_sum_act graded x d (d + sum x) (joined_coordinates (λ m. (graded m).dim d) coordinate ms es) ms a
-          j m here below)))
+      (sym (direct_sum_act graded x d (d + sum x) (joined_coordinates (λ m. (graded m).dim d) coordinate ms es) ms a
+      j m here below)))
 
   pub multiple_numbers : (Fits : M → Type 0) (rank : M → ℕ) (out : List E) (k n t : ℕ) → t ≡ d + sum x → n ≡ length ms →
       n ≤ k → k ≤ n → ((m : M) → Fits m → IsModule p (rank m) (graded m)) → FitEach Fits rank ms →
       IsMonomial 6 (common_rank (map rank ms)) (sum x) x → IsTuple is_element degree d ms es →
       EachBelow PartMultiple out k
       → (i : ℕ) → i < (direct_sum (map graded ms)).dim (d + sum x) →
-          joined_coordinates (λ m. (graded m).dim t) coordinate ms out i ≡ (direct_sum (map graded ms)).act x d
-          (d + sum x) (joined_coordinates (λ m. (graded m).dim d) coordinate ms es) i % p
+      joined_coordinates (λ m. (graded m).dim t) coordinate ms out i ≡ (direct_sum (map graded ms)).act x d
+      (d + sum x) (joined_coordinates (λ m. (graded m).dim d) coordinate ms es) i % p
   multiple_numbers Fits rank out k n t degree_is all past below laws fits is_m is h i inside =
       let sized : length out ≡ k = h.sized in
       let sizes : length es ≡ length ms = is.sized in
       let at : Located (λ m. (graded m).dim (d + sum x)) ms i =
-          locate (λ m. (graded m).dim (d + sum x)) ms i (rw (direct_sum_dim graded (d + sum x) ms) at inside) in
+      locate (λ m. (graded m).dim (d + sum x)) ms i (rw (direct_sum_dim graded (d + sum x) ms) at inside) in
       let here : at.part < length ms = at.inside in
       multiple_at Fits rank out k t at.part at.place (member ms at.part at.inside) (member out at.part (omega arith))
-          (member es at.part (omega arith)) degree_is (omega arith) here (omega arith) laws fits is_m is h
-          (at.below (member ms at.part at.inside)) i at.is
+      (member es at.part (omega arith)) degree_is (omega arith) here (omega arith) laws fits is_m is h
+      (at.below (member ms at.part at.inside)) i at.is

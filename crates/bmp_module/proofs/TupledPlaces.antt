@@ -28,7 +28,7 @@ module _ {M : Type 0} (dim : M → ℕ) where
   place_more ms i k place size m m_read inside sized past at =
       let here : dim m ≡ dim (get_or ms k m) = ap dim m_read in
       let more : total dim (take (k + 1) ms) ≡ total dim (take k ms) + dim (get_or ms k m) =
-          total_taken dim ms k m inside in
+      total_taken dim ms k m inside in
       omega (arith, here, more, sized, past, at)
 
   place_found : {E : Type 0} (coordinate : M → E → ℕ → ℕ) (ms : List M) (es : List E) (i k place size : ℕ) (m n : M)
@@ -40,7 +40,7 @@ module _ {M : Type 0} (dim : M → ℕ) where
       let below : place < dim (get_or ms k n) = subst (λ z. place < dim z) (read_both ms k m n inside m_read) small in
       ap (λ z. coordinate z e place) n_read ∙ ap (λ z. coordinate (get_or ms k n) z place) e_read
       ∙ sym (ap (joined_coordinates dim coordinate ms es) at
-          ∙ joined_at dim coordinate ms es k place n e inside sized below)
+      ∙ joined_at dim coordinate ms es k place n e inside sized below)
 
   -- the number read at a place of a part is that of the sum
   pub place_read : {E : Type 0} (coordinate : M → E → ℕ → ℕ) (ms : List M) (es : List E) (i k place size : ℕ) (m n : M)
@@ -86,10 +86,10 @@ module _ {M : Type 0} (dim : M → ℕ) where
   joined_part coordinate ms es fs k m x y m_read x_read y_read inside es_sized fs_sized agree j below =
       let there : j < dim (get_or ms k m) = subst (λ z. j < dim z) m_read below in
       place_found coordinate ms es (total dim (take k ms) + j) k j (dim m) m m x m_read m_read x_read inside es_sized
-          refl below refl
+      refl below refl
       ∙ agree (total dim (take k ms) + j) (place_inside ms k j m inside there)
       ∙ sym (place_found coordinate ms fs (total dim (take k ms) + j) k j (dim m) m m y m_read m_read y_read inside
-          fs_sized refl below refl)
+      fs_sized refl below refl)
 
 -- a part is no larger than the sum
 pub part_small : {M : Type 0} (graded : M → Graded) (d b : ℕ) (ms : List M) (k : ℕ) (m : M) → m ≡ get_or ms k m →
@@ -97,8 +97,14 @@ pub part_small : {M : Type 0} (graded : M → Graded) (d b : ℕ) (ms : List M) 
 part_small graded d b ms k m m_read inside small =
     let all : length ms ≤ length ms = omega arith in
     let here : (graded m).dim d ≡ (graded (get_or ms k m)).dim d = ap (λ z. (graded z).dim d) m_read in
-    omega (arith, here, total_apart (λ z. (graded z).dim d) ms k (length ms) m inside all,
-        total_front (λ z. (graded z).dim d) ms, direct_sum_dim graded d ms, small)
+    omega (
+      arith,
+      here,
+      total_apart (λ z. (graded z).dim d) ms k (length ms) m inside all,
+      total_front (λ z. (graded z).dim d) ms,
+      direct_sum_dim graded d ms,
+      small,
+    )
 
 pub place_end : {M X : Type 0} (graded : M → Graded) (d : ℕ) (x y : X) (ms : List M) (i k place : ℕ) → k ≡ length ms →
     i < (direct_sum (map graded ms)).dim d → i ≡ total (λ m. (graded m).dim d) (take k ms) + place → x ≡ y
@@ -106,29 +112,30 @@ place_end graded d x y ms i k place end inside at =
     place_past (λ m. (graded m).dim d) x y ms i k place end (rw (direct_sum_dim graded d ms) at inside) at
 
 module _ {M E : Type 0} (graded : M → Graded) (coordinate : M → E → ℕ → ℕ) (d t : ℕ) (ms : List M) (es fs : List E)
-    where
-  pub tuples_same : d ≡ t → length es ≡ length ms → length fs ≡ length ms →
-      ((k j : ℕ) (m : M) (x y : E) → k < length ms → j < (graded (get_or ms k m)).dim d →
-      coordinate (get_or ms k m) (get_or es k x) j ≡ coordinate (get_or ms k m) (get_or fs k y) j) →
-      (i : ℕ) → i < (direct_sum (map graded ms)).dim d → joined_coordinates (λ m. (graded m).dim d) coordinate ms es i
-      ≡ joined_coordinates (λ m. (graded m).dim t) coordinate ms fs i
-  tuples_same same es_sized fs_sized agree i inside =
-      joined_same (λ m. (graded m).dim d) coordinate ms es fs es_sized fs_sized agree i
-          (rw (direct_sum_dim graded d ms) at inside)
-      ∙ ap (λ z. joined_coordinates (λ m. (graded m).dim z) coordinate ms fs i) same
+  where
+    pub tuples_same : d ≡ t → length es ≡ length ms → length fs ≡ length ms →
+        ((k j : ℕ) (m : M) (x y : E) → k < length ms → j < (graded (get_or ms k m)).dim d →
+        coordinate (get_or ms k m) (get_or es k x) j ≡ coordinate (get_or ms k m) (get_or fs k y) j) →
+        (i : ℕ) → i < (direct_sum (map graded ms)).dim d → joined_coordinates (λ m. (graded m).dim d) coordinate ms es i
+        ≡ joined_coordinates (λ m. (graded m).dim t) coordinate ms fs i
+    tuples_same same es_sized fs_sized agree i inside =
+        joined_same (λ m. (graded m).dim d) coordinate ms es fs es_sized fs_sized agree i
+        (rw (direct_sum_dim graded d ms) at inside)
+        ∙ ap (λ z. joined_coordinates (λ m. (graded m).dim z) coordinate ms fs i) same
 
-  -- where two tuples agree, their parts do
-  pub tuples_part : {is_element : M → E → Type 0} {degree : M → E → ℕ} (k : ℕ) (m : M) (x y : E) → d ≡ t →
-      IsTuple is_element degree d ms es → IsTuple is_element degree t ms fs → m ≡ get_or ms k m → x ≡ get_or es k x →
-      y ≡ get_or fs k y → k < length ms →
-      ((i : ℕ) → i < (direct_sum (map graded ms)).dim d → joined_coordinates (λ m. (graded m).dim d) coordinate ms es i
-      ≡ joined_coordinates (λ m. (graded m).dim t) coordinate ms fs i) → (j : ℕ) → j < (graded m).dim (degree m x) →
-      coordinate m x j ≡ coordinate m y j
-  tuples_part {is_element} {degree} k m x y same first second m_read x_read y_read inside agree j below =
-      let there : degree (get_or ms k m) (get_or es k x) ≡ d = (first.each k m x inside).1 in
-      let deg : degree m x ≡ d = ap (λ z. degree z x) m_read ∙ ap (λ z. degree (get_or ms k m) z) x_read ∙ there in
-      joined_part (λ z. (graded z).dim d) coordinate ms es fs k m x y m_read x_read y_read inside first.sized
-          second.sized
-      (λ i l. agree i (rw (direct_sum_dim graded d ms) l)
-          ∙ ap (λ z. joined_coordinates (λ m. (graded m).dim z) coordinate ms fs i) (sym same))
-      j (subst (λ z. j < (graded m).dim z) deg below)
+    -- where two tuples agree, their parts do
+    pub tuples_part : {is_element : M → E → Type 0} {degree : M → E → ℕ} (k : ℕ) (m : M) (x y : E) → d ≡ t →
+        IsTuple is_element degree d ms es → IsTuple is_element degree t ms fs → m ≡ get_or ms k m → x ≡ get_or es k x →
+        y ≡ get_or fs k y → k < length ms →
+        ((i : ℕ) → i < (direct_sum (map graded ms)).dim d →
+        joined_coordinates (λ m. (graded m).dim d) coordinate ms es i
+        ≡ joined_coordinates (λ m. (graded m).dim t) coordinate ms fs i) → (j : ℕ) → j < (graded m).dim (degree m x) →
+        coordinate m x j ≡ coordinate m y j
+    tuples_part {is_element} {degree} k m x y same first second m_read x_read y_read inside agree j below =
+        let there : degree (get_or ms k m) (get_or es k x) ≡ d = (first.each k m x inside).1 in
+        let deg : degree m x ≡ d = ap (λ z. degree z x) m_read ∙ ap (λ z. degree (get_or ms k m) z) x_read ∙ there in
+        joined_part (λ z. (graded z).dim d) coordinate ms es fs k m x y m_read x_read y_read inside first.sized
+        second.sized
+        (λ i l. agree i (rw (direct_sum_dim graded d ms) l)
+        ∙ ap (λ z. joined_coordinates (λ m. (graded m).dim z) coordinate ms fs i) (sym same))
+        j (subst (λ z. j < (graded m).dim z) deg below)

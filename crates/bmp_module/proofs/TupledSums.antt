@@ -13,8 +13,12 @@ pub dim_step : {M : Type 0} (graded : M → Graded) (d : ℕ) (ms : List M) (k s
     (drop k ms) → total (λ m. (graded m).dim d) ms ≡ (sum + n) + total (λ m. (graded m).dim d) (drop (k + 1) ms)
 dim_step graded d ms k sum n m inside at is so_far =
     let size : n ≡ (graded (get_or ms k m)).dim d = is ∙ ap (λ z. (graded z).dim d) at in
-    omega (arith, size, total_step (λ m. (graded m).dim d) ms ms k (total (λ m. (graded m).dim d) ms) sum m refl inside
-        so_far)
+    omega (
+      arith,
+      size,
+      total_step (λ m. (graded m).dim d) ms ms k (total (λ m. (graded m).dim d) ms) sum m refl inside
+          so_far,
+    )
 
 pub dim_fits : {M : Type 0} (graded : M → Graded) (d b : ℕ) (ms : List M) (k sum n : ℕ) (m : M) → k < length ms →
     m ≡ get_or ms k m → n ≡ (graded m).dim d → (direct_sum (map graded ms)).dim d < b →
@@ -33,9 +37,9 @@ dim_end graded d ms k sum past so_far =
 pub tuple_zero : {M E : Type 0} (is_element : M → E → Type 0) (degree : M → E → ℕ) (graded : M → Graded)
     (coordinate : M → E → ℕ → ℕ) (d k : ℕ) (ms : List M) (es : List E) → length ms ≤ k → k ≤ length ms
     → EachBelow (λ i e. (m : M) → is_element (get_or ms i m) e × (degree (get_or ms i m) e ≡ d) ×
-        ((j : ℕ) → j < (graded (get_or ms i m)).dim d → coordinate (get_or ms i m) e j ≡ 0)) es k
+    ((j : ℕ) → j < (graded (get_or ms i m)).dim d → coordinate (get_or ms i m) e j ≡ 0)) es k
     → (i : ℕ) → i < (direct_sum (map graded ms)).dim d → joined_coordinates (λ m. (graded m).dim d) coordinate ms es i
-        ≡ 0
+    ≡ 0
 tuple_zero is_element degree graded coordinate d k ms es past within h i inside =
     let size : length es ≡ k = h.sized in
     let sized : length es ≡ length ms = omega arith in

@@ -56,14 +56,14 @@ module _ {E : Type 0} (is_value : E → Type 0) (num : E → ℕ) (p : ℕ) (n m
       let sized : length new ≡ length out + m g = block.sized in
       let numbers : (j : ℕ) → j < m g → h j ≡ f g (λ i. v (start + i)) j % p = λ j l.
       let below : coefficient num new (length out + j) < p =
-          coefficient_small is_value num p new (length out + j) small block.values (omega arith) in
+      coefficient_small is_value num p new (length out + j) small block.values (omega arith) in
       let low : h j < p = rw (block.added j l) at below in
       sym (mod-eq_of_lt low) ∙ same_numbers j l in
       let rest : (w : ℕ → ℕ) (j : ℕ) → blockwise n m f (drop k gs) w j ≡ cond (ltb j (m g)) (f g w j)
-          (blockwise n m f (drop (k + 1) gs) (λ i. w (n g + i)) (j - m g)) =
-          λ w j. rw g_is (blockwise_rest n m f gs k w j inside) in
+      (blockwise n m f (drop (k + 1) gs) (λ i. w (n g + i)) (j - m g)) =
+      λ w j. rw g_is (blockwise_rest n m f gs k w j inside) in
       let moved : (λ (i : ℕ). v (start + (n g + i))) ≡ (λ (i : ℕ). v (end + i)) =
-          fun_ext (λ i. let same : start + (n g + i) ≡ end + i = omega arith in ap v same) in
+      fun_ext (λ i. let same : start + (n g + i) ≡ end + i = omega arith in ap v same) in
       record {
         source = let more = total_rest n gs k 0 inside in rw end_is (omega (arith, so_far.source, rw (← g_is) at more));
         target = let more = total_rest m gs k 0 inside in omega (arith, so_far.target, rw (← g_is) at more);
@@ -76,19 +76,19 @@ module _ {E : Type 0} (is_value : E → Type 0) (num : E → ℕ) (p : ℕ) (n m
               let i_is : i ≡ length out + (i - length out) = omega arith in
               ap (coefficient num new) i_is ∙ block.added (i - length out) here ∙ numbers (i - length out) here
               ∙ ap (λ z. z % p)
-                  (sym (ap (blockwise n m f gs v) i_is ∙ so_far.left (i - length out)
-                  ∙ rest (λ j. v (start + j)) (i - length out)
+              (sym (ap (blockwise n m f gs v) i_is ∙ so_far.left (i - length out)
+              ∙ rest (λ j. v (start + j)) (i - length out)
               ∙ cond-true {A = ℕ} (ltb (i - length out) (m g)) (f g (λ j. v (start + j)) (i - length out))
-                  (blockwise n m f (drop (k + 1) gs) (λ a. v (start + (n g + a))) ((i - length out) - m g))
-                  (lt-ltb (i - length out) (m g) here)))
+              (blockwise n m f (drop (k + 1) gs) (λ a. v (start + (n g + a))) ((i - length out) - m g))
+              (lt-ltb (i - length out) (m g) here)))
         ];
         left = λ i.
             let there : length new + i ≡ length out + (m g + i) = omega arith in
             let back : (m g + i) - m g ≡ i = omega arith in
             ap (blockwise n m f gs v) there ∙ so_far.left (m g + i) ∙ rest (λ j. v (start + j)) (m g + i)
             ∙ cond-false {A = ℕ} (ltb (m g + i) (m g)) (f g (λ j. v (start + j)) (m g + i))
-                (blockwise n m f (drop (k + 1) gs) (λ a. v (start + (n g + a))) ((m g + i) - m g))
-                (le-ltb (m g + i) (m g) (omega arith))
+            (blockwise n m f (drop (k + 1) gs) (λ a. v (start + (n g + a))) ((m g + i) - m g))
+            (le-ltb (m g + i) (m g) (omega arith))
             ∙ ap (blockwise n m f (drop (k + 1) gs) (λ a. v (start + (n g + a)))) back
             ∙ ap (λ w. blockwise n m f (drop (k + 1) gs) w i) moved;
       }

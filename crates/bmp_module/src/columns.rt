@@ -53,7 +53,7 @@ fn push_multiples<F: Field, N: GradedModule<F>>(
     ensures { let a = N.degree over.now image.now in
         OnOk result (HasColumns ((N.graded over.now).dim d) ((moved a (polynomials rank)).dim d)
         (λ j i. (N.graded over.now).act (exponents 6 rank (d - a) j) a d (N.coordinate over.now f.now image.now) i
-            % F.size f.now)
+        % F.size f.now)
         columns.old.items columns.new.items) }
 {
     let a = over.degree(image);
@@ -80,7 +80,7 @@ impl<'a, F: Field, N: GradedModule<F>> Linear<'a, F, N> {
         ensures { let M = N.graded self.now.into.now in let gs = self.now.from.now.degrees.items in
             IfOk result (λ columns. HasColumnsOf (matrix_of_map (F.size f.now) (free self.now.from.now.rank gs) M
             (extension self.now.from.now.rank M gs
-                (image_coordinates (N.coordinate self.now.into.now f.now) self.now.images.now)) d)
+            (image_coordinates (N.coordinate self.now.into.now f.now) self.now.images.now)) d)
             columns.items) }
     {
         let mut columns = Vec::new(alloc);

@@ -53,7 +53,7 @@ impl<'a> Projection<'a> {
         requires degree { a.now.degree ≡ b.now.degree }
         ensures { let x = label_of (quotient_of self.now) in IfOk result (λ same. IsTrue same ↔
             IsSameModulo (prime_of x) (rank_of x) (coordinate_of x) (degrees_of (free_of (quotient_of self.now)))
-                a.now.degree
+            a.now.degree
             (coefficient (F.num f.now) a.now.numbers.items) (coefficient (F.num f.now) b.now.numbers.items)) }
     {
         let first = self.apply(alloc, f, a)?;

@@ -61,8 +61,8 @@ impl<F: Field, M: GradedModule<F> + Drop> GradedModule<F> for Tuple<M> {
 
     ghost degree = { λ s e. e.degree };
 
-    ghost coordinate =
-        { λ s f e. joined_coordinates (λ m. (M.graded m).dim e.degree) (λ m a. M.coordinate m f a) s.parts.items
+    ghost coordinate = { λ s f e.
+        joined_coordinates (λ m. (M.graded m).dim e.degree) (λ m a. M.coordinate m f a) s.parts.items
         e.parts.items };
 
     fn dim(&self, d: u32) -> u64 {

@@ -18,8 +18,7 @@ use std::alloc::Global;
 use std::thread::Threads;
 
 // What the words and the input are answered with.
-#[tactic(auto, using(crate::proofs::ReportLemmas::input_decided, crate::proofs::ReportLemmas::sample_decided,
-    crate::proofs::ReportLemmas::reads_nothing))]
+#[tactic(auto, using(crate::proofs::ReportLemmas::input_decided, crate::proofs::ReportLemmas::sample_decided, crate::proofs::ReportLemmas::reads_nothing))]
 fn decide<S: Source, G: Gate>(
     rt: &(impl Threads + Sync),
     alloc: Global,

@@ -55,8 +55,8 @@ pub trait Sections {
         requires numbers { (j : ℕ) → j < (list self.now).count → (list self.now).value j y c < F.size f.now }
         requires factor { F.is_value f.now factor }
         requires sums { HoldsNumbers (F.size f.now) (list self.now).count sums.old }
-        ensures { IsRowAddedTo (F.size f.now) (value_matrix (list self.now) y) c (F.num f.now factor) sums.old sums.new
-            }
+        ensures { IsRowAddedTo (F.size f.now) (value_matrix (list self.now) y) c (F.num f.now factor)
+            sums.old sums.new }
     {
         for j in 0..self.count() {
             let sum = f.from_num(u32::from(sums[j as usize]));

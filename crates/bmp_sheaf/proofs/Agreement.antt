@@ -25,7 +25,7 @@ pub written_agree : (G : Graph) (degrees degrees' : ℕ → List ℕ) (lifts lif
 written_agree G degrees degrees' lifts lifts' e below above written =
     let lift : List ℕ → List ℕ → List (List Entry) → ℕ → Element =
     λ b a w g. element_of G.rank a (slice_index b g)
-        (number_at (slice_index_or w ((e - first_edge G (lower G e)) * length b + g) [])) in
+    (number_at (slice_index_or w ((e - first_edge G (lower G e)) * length b + g) [])) in
     record {
       degrees_below = below;
       degrees_above = above;

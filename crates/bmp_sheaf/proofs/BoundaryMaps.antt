@@ -36,7 +36,7 @@ module _ (G : Graph) (over : IsOverField G) (F : SheafData) (x d : ℕ) where
       (λ u. on_edge G F d e (lift_of G F e d (element_of G.rank (F.degrees (lower G e)) d u)))
   linear_on_edge e is_edge starts =
       subst (λ y. IsLinear G.prime (stalk_count G.rank (F.degrees y) d) (edge_module_count G F d e)
-          (λ u. on_edge G F d e (lift_of G F e d (element_of G.rank (F.degrees (lower G e)) d u)))) starts
+      (λ u. on_edge G F d e (lift_of G F e d (element_of G.rank (F.degrees (lower G e)) d u)))) starts
       (from_below_is_linear G over F d e is_edge)
 
   pub to_boundary_is_linear : IsLinear G.prime (stalk_count G.rank (F.degrees x) d) (boundary_count G F x d) to_boundary
@@ -44,21 +44,21 @@ module _ (G : Graph) (over : IsOverField G) (F : SheafData) (x d : ℕ) where
     respects = λ u v same. each_boundary_place G F x d (λ k. SameMod G.prime (to_boundary u k) (to_boundary v k))
         (λ e i is_edge starts inside.
         ap (λ z. z % G.prime) (to_boundary_at e i is_edge starts inside u)
-            ∙ (linear_on_edge e is_edge starts).respects u v same i inside
+        ∙ (linear_on_edge e is_edge starts).respects u v same i inside
         ∙ ap (λ z. z % G.prime) (sym (to_boundary_at e i is_edge starts inside v)));
     sums = λ u v. each_boundary_place G F x d
         (λ k. SameMod G.prime (to_boundary (plus u v) k) (to_boundary u k + to_boundary v k))
         (λ e i is_edge starts inside.
         ap (λ z. z % G.prime) (to_boundary_at e i is_edge starts inside (plus u v))
-            ∙ (linear_on_edge e is_edge starts).sums u v i inside
+        ∙ (linear_on_edge e is_edge starts).sums u v i inside
         ∙ ap (λ z. z % G.prime)
-            (sym (ap₂ (λ y z. y + z) (to_boundary_at e i is_edge starts inside u)
-            (to_boundary_at e i is_edge starts inside v))));
+        (sym (ap₂ (λ y z. y + z) (to_boundary_at e i is_edge starts inside u)
+        (to_boundary_at e i is_edge starts inside v))));
     multiples = λ y u. each_boundary_place G F x d
         (λ k. SameMod G.prime (to_boundary (scaled y u) k) (y * to_boundary u k))
         (λ e i is_edge starts inside.
         ap (λ z. z % G.prime) (to_boundary_at e i is_edge starts inside (scaled y u))
-            ∙ (linear_on_edge e is_edge starts).multiples y u i inside
+        ∙ (linear_on_edge e is_edge starts).multiples y u i inside
         ∙ ap (λ z. (y * z) % G.prime) (sym (to_boundary_at e i is_edge starts inside u)));
   }
 
@@ -67,7 +67,7 @@ module _ (G : Graph) (over : IsOverField G) (F : SheafData) (x d : ℕ) where
       % G.prime ≡ to_boundary u k
   boundary_image u k below =
       matrix_of_linear G.prime (stalk_count G.rank (F.degrees x) d) (boundary_count G F x d) (boundary_matrix G F x d)
-          to_boundary to_boundary_is_linear refl refl (λ k j row column. refl) u k below
+      to_boundary to_boundary_is_linear refl refl (λ k j row column. refl) u k below
       ∙ mod-eq_of_lt (boundary_number_below G F x d over (boundary_of_element G F d (element u)) k)
 
   pub boundary_numbers_below : NumbersBelow G.prime (boundary_matrix G F x d)

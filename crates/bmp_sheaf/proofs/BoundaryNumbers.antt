@@ -31,25 +31,42 @@ module _ (G : Graph) (F : SheafData) (x d : ℕ) where
 
   inside_size : (e i : ℕ) → lower G e ≡ x → i < edge_module_count G F d e → i < size e
   inside_size e i starts inside =
-      omega (arith, inside,
-      cond-true {A = ℕ} (eqb (lower G e) x) (edge_module_count G F d e) 0 (eq-eqb (lower G e) x starts))
+      omega (
+        arith,
+        inside,
+        cond-true {A = ℕ} (eqb (lower G e) x) (edge_module_count G F d e) 0 (eq-eqb (lower G e) x starts),
+      )
 
   size_inside : (e i : ℕ) → i < size e → (lower G e ≡ x) × (i < edge_module_count G F d e)
   size_inside e i inside = elim (cases_eq (lower G e) x) [
-    | inl starts ↦ (starts,
-        omega (arith, inside,
-        cond-true {A = ℕ} (eqb (lower G e) x) (edge_module_count G F d e) 0 (eq-eqb (lower G e) x starts)))
+    | inl starts ↦ (
+      starts,
+      omega (
+        arith,
+        inside,
+        cond-true {A = ℕ} (eqb (lower G e) x) (edge_module_count G F d e) 0 (eq-eqb (lower G e) x starts),
+      ),
+    )
     | inr other ↦ absurd
-        (omega (arith, inside,
-        cond-false {A = ℕ} (eqb (lower G e) x) (edge_module_count G F d e) 0 (ne_eqb (lower G e) x other)))
+        (omega (
+          arith,
+          inside,
+          cond-false {A = ℕ} (eqb (lower G e) x) (edge_module_count G F d e) 0 (ne_eqb (lower G e) x other),
+        ))
   ]
 
   pub boundary_place_of : (k : ℕ) → k < boundary_count G F x d → IsBoundaryPlace G F x d k
   boundary_place_of k below =
       let in_block : InBlock size (edge_count G) k = block_of size (edge_count G) k below in
       let within = size_inside in_block.block in_block.place in_block.inside in
-      record { edge = in_block.block; place = in_block.place; is_edge = in_block.below; starts = within.0;
-          inside = within.1; is = sym in_block.is }
+      record {
+        edge = in_block.block;
+        place = in_block.place;
+        is_edge = in_block.below;
+        starts = within.0;
+        inside = within.1;
+        is = sym in_block.is;
+      }
 
   pub boundary_place_below : (e i : ℕ) → e < edge_count G → lower G e ≡ x → i < edge_module_count G F d e →
       boundary_start G F x d e + i < boundary_count G F x d
@@ -85,8 +102,8 @@ module _ (G : Graph) (F : SheafData) (x d : ℕ) where
         each_boundary_place (λ k. numbers b k ≡ numbers c k)
         (λ e i is_edge starts inside.
         boundary_number_at b e i is_edge starts inside
-            ∙ on_edge_same G over F d e is_edge (b e) (c e) (same e is_edge starts) i inside
-            ∙ sym (boundary_number_at c e i is_edge starts inside))
+        ∙ on_edge_same G over F d e is_edge (b e) (c e) (same e is_edge starts) i inside
+        ∙ sym (boundary_number_at c e i is_edge starts inside))
 
     pub same_boundary_numbers : (b c : Boundary) → ((k : ℕ) → k < boundary_count G F x d → numbers b k ≡ numbers c k) →
         SameBoundary G F x d b c
@@ -94,8 +111,8 @@ module _ (G : Graph) (F : SheafData) (x d : ℕ) where
         same_on_edge G over F d e is_edge (b e) (c e)
         (λ i inside.
         sym (boundary_number_at b e i is_edge starts inside)
-            ∙ same (boundary_start G F x d e + i) (boundary_place_below e i is_edge starts inside)
-            ∙ boundary_number_at c e i is_edge starts inside)
+        ∙ same (boundary_start G F x d e + i) (boundary_place_below e i is_edge starts inside)
+        ∙ boundary_number_at c e i is_edge starts inside)
 
     pub boundary_numbers_decide : (b c : Boundary) → SameBoundary G F x d b c ↔
         ((k : ℕ) → k < boundary_count G F x d → numbers b k ≡ numbers c k)
@@ -109,27 +126,27 @@ module _ (G : Graph) (F : SheafData) (x d : ℕ) where
         each_boundary_place (λ k. numbers b k ≡ numbers c k)
         (λ e i is_edge starts inside.
         boundary_number_at b e i is_edge starts inside
-            ∙ on_edge_respects G over F d e is_edge (b e) (c e) (same e is_edge starts) i inside
-            ∙ sym (boundary_number_at c e i is_edge starts inside))
+        ∙ on_edge_respects G over F d e is_edge (b e) (c e) (same e is_edge starts) i inside
+        ∙ sym (boundary_number_at c e i is_edge starts inside))
 
     pub boundary_number-zero : (k : ℕ) → k < boundary_count G F x d → numbers (λ e. zero_element) k ≡ 0
     boundary_number-zero =
         each_boundary_place (λ k. numbers (λ e. zero_element) k ≡ 0)
         (λ e i is_edge starts inside. boundary_number_at (λ e. zero_element) e i is_edge starts inside
-            ∙ on_edge-zero G over F d e is_edge i inside)
+        ∙ on_edge-zero G over F d e is_edge i inside)
 
     pub boundary_number-combination : (c : ℕ → ℕ) (b : ℕ → Boundary) (n : ℕ) →
         SameVector G.prime (boundary_count G F x d) (numbers (λ e g m. sum_below (λ j. c j * b j e g m) n))
         (λ k. sum_below (λ j. c j * numbers (b j) k) n)
     boundary_number-combination c b n =
         each_boundary_place
-            (λ k. SameMod G.prime (numbers (λ e g m. sum_below (λ j. c j * b j e g m) n) k)
-            (sum_below (λ j. c j * numbers (b j) k) n))
+        (λ k. SameMod G.prime (numbers (λ e g m. sum_below (λ j. c j * b j e g m) n) k)
+        (sum_below (λ j. c j * numbers (b j) k) n))
         (λ e i is_edge starts inside.
         ap (λ z. z % G.prime)
-            (boundary_number_at (λ e g m. sum_below (λ j. c j * b j e g m) n) e i is_edge starts inside)
+        (boundary_number_at (λ e g m. sum_below (λ j. c j * b j e g m) n) e i is_edge starts inside)
         ∙ on_edge-combination G over F d e is_edge c (λ j. b j e) n i inside
         ∙ ap (λ z. z % G.prime)
-            (sym (sum_below_same (λ j. c j * numbers (b j) (boundary_start G F x d e + i))
-            (λ j. c j * on_edge G F d e (b j e) i) n
-            (λ j below. ap (λ z. c j * z) (boundary_number_at (b j) e i is_edge starts inside)))))
+        (sym (sum_below_same (λ j. c j * numbers (b j) (boundary_start G F x d e + i))
+        (λ j. c j * on_edge G F d e (b j e) i) n
+        (λ j below. ap (λ z. c j * z) (boundary_number_at (b j) e i is_edge starts inside)))))

@@ -27,8 +27,8 @@ module _ (G : Graph) (over : IsOverField G) (F : SheafData) (x d e : ℕ) (is_ed
   edge_rows_below p small i j row column =
       let inside : i < edge_module_count G F d e = omega (arith, row, same.rows) in
       let number : (boundary_matrix G F x d).entry (boundary_start G F x d e + i) j < p =
-          small (boundary_start G F x d e + i) j (boundary_place_below G F x d e i is_edge starts inside)
-          (omega (arith, column, cols_are)) in
+      small (boundary_start G F x d e + i) j (boundary_place_below G F x d e i is_edge starts inside)
+      (omega (arith, column, cols_are)) in
       omega (arith, number, entry_at i j inside column)
 
   module _ (k i : ℕ) (inside : i < edge_module_count G F d e) (place : k ≡ boundary_start G F x d e + i) where
@@ -41,7 +41,7 @@ module _ (G : Graph) (over : IsOverField G) (F : SheafData) (x d e : ℕ) (is_ed
     image_is v =
         ap (sum_below (λ j. v j * a.entry i j)) cols_are
         ∙ sum_below_same (λ j. v j * a.entry i j) (λ j. v j * (boundary_matrix G F x d).entry k j)
-            (stalk_count G.rank (F.degrees x) d) (λ j column. ap (λ z. v j * z) (entry_is j column))
+        (stalk_count G.rank (F.degrees x) d) (λ j column. ap (λ z. v j * z) (entry_is j column))
 
     pub row_added : (p c : ℕ) (old new : List ℕ) → IsRowAddedTo p a i c old new →
         IsRowAddedTo p (boundary_matrix G F x d) k c old new

@@ -19,8 +19,11 @@ use Rattle.bmp_math.proofs.SameMatrices.{image_same}
 -- a run of numbers, one after another
 module _ (f : ℕ → ℕ) (start : ℕ) (old : Work) where
   pub run_none : IsRunWritten f start 0 old old
-  run_none = record { numbers = λ i below. absurd (let none : i < 0 = below in omega arith); before = λ k below. refl;
-      rest = record { first = refl; second = refl } }
+  run_none = record {
+    numbers = λ i below. absurd (let none : i < 0 = below in omega arith);
+    before = λ k below. refl;
+    rest = record { first = refl; second = refl };
+  }
 
   pub run_more : (n at value : ℕ) (now new : Work) → at ≡ start + n → value ≡ f n → start + n < length old.first →
       new ≡ record now { first = set now.first at value } → IsRunWritten f start n old now →
@@ -28,7 +31,7 @@ module _ (f : ℕ → ℕ) (start : ℕ) (old : Work) where
   run_more n at value now new at_is value_is inside new_is h =
       let here : start + n < length now.first = omega (arith, inside, h.rest.first) in
       let first_is : new.first ≡ set now.first (start + n) value =
-          ap (λ (w : Work). w.first) new_is ∙ ap (λ z. set now.first z value) at_is in
+      ap (λ (w : Work). w.first) new_is ∙ ap (λ z. set now.first z value) at_is in
       let others : (k : ℕ) → (k ≡ start + n → ⊥) → get_or new.first k 0 ≡ get_or now.first k 0 =
       λ k other. ap (λ xs. get_or xs k 0) first_is ∙ get_or-set_other now.first (start + n) k value 0 other in
       record {
@@ -38,8 +41,10 @@ module _ (f : ℕ → ℕ) (start : ℕ) (old : Work) where
           | inr other ↦ others (start + i) (λ e. other (omega (arith, e))) ∙ h.numbers i (omega (arith, below, other))
         ];
         before = λ k below. others k (λ e. omega (arith, e, below)) ∙ h.before k below;
-        rest = record { first = ap length first_is ∙ length-set now.first (start + n) value ∙ h.rest.first;
-            second = ap (λ (w : Work). w.second) new_is ∙ h.rest.second };
+        rest = record {
+          first = ap length first_is ∙ length-set now.first (start + n) value ∙ h.rest.first;
+          second = ap (λ (w : Work). w.second) new_is ∙ h.rest.second;
+        };
       }
 
 -- the numbers on an edge, by the rows of its map
@@ -49,7 +54,7 @@ module _ (G : Graph) (over : IsOverField G) (F : SheafData) (d e : ℕ) (below :
       image a u i % p ≡ lift_numbers G F d e u i
   lift_by_rows p u i prime inside =
       ap (λ z. image a u i % z) prime ∙ ap (λ z. z % G.prime) (image_same same u i inside)
-          ∙ lower_image G over F d e below u i inside
+      ∙ lower_image G over F d e below u i inside
 
 module _ (G : Graph) (F : SheafData) (x d : ℕ) (u : ℕ → ℕ) (old : Work) where
   abbrev pub numbers_of : ℕ → ℕ
@@ -71,9 +76,13 @@ module _ (G : Graph) (over : IsOverField G) (F : SheafData) (x d from to : ℕ) 
   numbers = numbers_of G F x d u old
 
   pub before_none : Before from 0 old
-  before_none = record { start_is = sym (boundary_starts G x from to range F d); small = omega arith;
-      numbers = λ k below. absurd (let none : k < 0 = below in omega arith); rest =
-      record { first = refl; second = refl } }
+  before_none = record {
+    start_is = sym (boundary_starts G x from to range F d);
+    small = omega arith;
+    numbers = λ k below. absurd (let none : k < 0 = below in omega arith);
+    rest =
+        record { first = refl; second = refl };
+  }
 
   module _ (e start : ℕ) (past : from ≤ e) (below : e < to) where
     next_start : boundary_start G F x d (e + 1) ≡ boundary_start G F x d e + edge_module_count G F d e

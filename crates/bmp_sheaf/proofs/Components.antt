@@ -17,7 +17,7 @@ component_within r d e i inside = elim (cases_lt d e) [
       absurd (omega (arith, inside, none))
   | inr within ↦
       let some : component_count r d e ≡ count r (d - e) =
-          cond-true {A = ℕ} (leb e d) (count r (d - e)) 0 (le-leb e d within) in
+      cond-true {A = ℕ} (leb e d) (count r (d - e)) 0 (le-leb e d within) in
       (omega arith, omega (arith, inside, some))
 ]
 
@@ -81,7 +81,7 @@ module _ (r d : ℕ) (degrees : List ℕ) (wide : r ≤ 6) where
   stalk_place_of k below =
       let at : InComponent r d degrees k = component_of r d degrees k below in
       let stands : StandsAt 6 r at.degree at.place (exponents 6 r at.degree at.place) =
-          exponents_stand 6 r at.degree at.place wide at.inside in
+      exponents_stand 6 r at.degree at.place wide at.inside in
       record {
         generator = at.generator;
         degree = at.degree;
@@ -96,7 +96,9 @@ module _ (r d : ℕ) (degrees : List ℕ) (wide : r ≤ 6) where
       (g ≡ h) × (m ≡ n)
   stalk_place_once g h s t m n has_g has_h is_m is_n same =
       let both = component_once r d degrees g h s t (place r m) (place r n) has_g has_h (place_below 6 r s m wide is_m)
-          (place_below 6 r t n wide is_n) same in
-      let sizes : s ≡ t = same_degree r d degrees g h s t has_g has_h both.0 in
-      (both.0, sym (exponents-place 6 r s m wide is_m) ∙ ap (exponents 6 r s) both.1
-          ∙ ap (λ z. exponents 6 r z (place r n)) sizes ∙ exponents-place 6 r t n wide is_n)
+      (place_below 6 r t n wide is_n) same in
+      let sizes : s ≡ t = same_degree r d degrees g h s t has_g has_h both.0 in (
+        both.0,
+        sym (exponents-place 6 r s m wide is_m) ∙ ap (exponents 6 r s) both.1
+            ∙ ap (λ z. exponents 6 r z (place r n)) sizes ∙ exponents-place 6 r t n wide is_n,
+      )

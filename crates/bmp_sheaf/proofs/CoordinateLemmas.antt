@@ -21,7 +21,7 @@ module _ (q r l d : ℕ) (c : ℕ → ℕ) (degrees : List ℕ) (a b : Element) 
       let x = has_a g s has in
       let y = has_b g s has in
       let same : SameForm (suc q) 6 r s x.0 y.0 =
-          (same_normal_forms q 6 r s l c label wide (a g) x.0 (b g) y.0 x.1 y.1).1 (congruent g s has) in
+      (same_normal_forms q 6 r s l c label wide (a g) x.0 (b g) y.0 x.1 y.1).1 (congruent g s has) in
       x.2 e mono pure ∙ same e mono ∙ sym (y.2 e mono pure)
 
   same_forms : SamePlaces → (g s : ℕ) (has : HasComponent degrees d g s) →

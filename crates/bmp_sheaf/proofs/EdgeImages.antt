@@ -30,8 +30,8 @@ number_at_below [] j p some small = some
 number_at_below (e ∷ v) j p some small =
     let first : 0 < suc (length v) = omega arith in
     let rest : number_at v j < p =
-        number_at_below v j p some (λ k d below. let next : suc k < suc (length v) = omega arith in
-        small (suc k) d next) in
+    number_at_below v j p some (λ k d below. let next : suc k < suc (length v) = omega arith in
+    small (suc k) d next) in
     elim (eqb e.place j) as (λ b. cond b e.value (number_at v j) < p) [ true ↦ small 0 e first | false ↦ rest ]
 
 -- the first n of the images
@@ -48,7 +48,7 @@ module _ {E : Type 0} (is_element : E → Type 0) (degree : E → ℕ) (coordina
   pub images_more : (n : ℕ) (es : List E) (e : E) → AreImagesBelow is_element degree coordinate numbers rows gs u n es →
       is_element e → degree e ≡ slice_index gs n
       → ((i : ℕ) → i < rows (slice_index gs n) → coordinate e i ≡ numbers (slice_index gs n) (u n) i) →
-          AreImagesBelow is_element degree coordinate numbers rows gs u (n + 1) (es ++ e ∷ [])
+      AreImagesBelow is_element degree coordinate numbers rows gs u (n + 1) (es ++ e ∷ [])
   images_more n es e h element degree_is each =
       let sized : length es ≡ n = h.counted in
       let longer : length (es ++ e ∷ []) ≡ n + 1 = length_more es e ∙ ap (λ z. z + 1) sized in
@@ -63,20 +63,20 @@ module _ {E : Type 0} (is_element : E → Type 0) (degree : E → ℕ) (coordina
         each = λ k i below inside. elim (cases_eq k n) [
           | inl here ↦
               ap (λ (w : ℕ → ℕ). w i)
-                  (image_read coordinate (es ++ e ∷ []) k e (omega (arith, longer, below))
-                  (sym (get_or_push es e e k (sized ∙ sym here))))
+              (image_read coordinate (es ++ e ∷ []) k e (omega (arith, longer, below))
+              (sym (get_or_push es e e k (sized ∙ sym here))))
               ∙ each i (subst (λ z. i < rows (slice_index gs z)) here inside)
-                  ∙ ap (λ z. numbers (slice_index gs z) (u z) i) (sym here)
+              ∙ ap (λ z. numbers (slice_index gs z) (u z) i) (sym here)
           | inr other ↦
               let before : k < n = omega arith in
               let within : k < length es = omega (arith, sized, before) in
               let x : E = get_or es k e in
               let own : get_or es k e ≡ get_or es k (get_or es k e) = get_or_default es k e (get_or es k e) within in
               ap (λ (w : ℕ → ℕ). w i)
-                  (image_read coordinate (es ++ e ∷ []) k (get_or es k e) (omega (arith, longer, below))
-                  (own ∙ sym (get_or_append_left es (e ∷ []) (get_or es k e) k within)))
+              (image_read coordinate (es ++ e ∷ []) k (get_or es k e) (omega (arith, longer, below))
+              (own ∙ sym (get_or_append_left es (e ∷ []) (get_or es k e) k within)))
               ∙ ap (λ (w : ℕ → ℕ). w i) (sym (image_read coordinate es k (get_or es k e) within own))
-                  ∙ h.each k i before inside
+              ∙ h.each k i before inside
         ];
       }
 
@@ -86,8 +86,11 @@ module _ {E : Type 0} (is_element : E → Type 0) (degree : E → ℕ) (coordina
   images_all n es within past h =
       let all : n ≡ length gs = omega arith in
       record {
-        images = record { counted = h.counted ∙ all; elements = h.elements;
-            degrees = λ k e below. h.degrees k e (omega (arith, below, h.counted)) };
+        images = record {
+          counted = h.counted ∙ all;
+          elements = h.elements;
+          degrees = λ k e below. h.degrees k e (omega (arith, below, h.counted));
+        };
         each = λ k i below inside. h.each k i (omega (arith, below, past)) inside;
       }
 
@@ -96,7 +99,7 @@ module _ (p r l : ℕ) (coords : List ℕ) (two : 2 ≤ p) (inverses : HasInvers
   -- the projection of an element with the coordinates v
   projected_number : (a i : ℕ) (v : ℕ → ℕ) (u : Element) (x : ℕ → ℕ) → SameElement p r into a (element_of r into a v) u
       → ((i : ℕ) → i < (quotient p (r - 1) l (slice_index coords) into).dim a →
-          x i ≡ projection p (r - 1) l (slice_index coords) into a v i % p)
+      x i ≡ projection p (r - 1) l (slice_index coords) into a v i % p)
       → i < stalk_count (r - 1) into a → x i ≡ edge_number p r (slice_index coords) l into a u i
   projected_number a i v u x same x_is below =
       x_is i (omega (arith, below, quotient_count p (r - 1) l a (slice_index coords) into))
@@ -105,20 +108,20 @@ module _ (p r l : ℕ) (coords : List ℕ) (two : 2 ≤ p) (inverses : HasInvers
 
   pub generator_number : (a g i : ℕ) (v x : ℕ → ℕ) → a ≡ slice_index into g → IsGenerator r into g v
       → ((i : ℕ) → i < (quotient p (r - 1) l (slice_index coords) into).dim a →
-          x i ≡ projection p (r - 1) l (slice_index coords) into a v i % p)
+      x i ≡ projection p (r - 1) l (slice_index coords) into a v i % p)
       → i < stalk_count (r - 1) into (slice_index into g) →
-          x i ≡ edge_number p r (slice_index coords) l into (slice_index into g) (unit_element g) i
+      x i ≡ edge_number p r (slice_index coords) l into (slice_index into g) (unit_element g) i
   generator_number a g i v x a_is is x_is below =
       projected_number (slice_index into g) i v (unit_element g) x (generator_same p r g into v is)
       (subst (λ z. (i : ℕ) → i < (quotient p (r - 1) l (slice_index coords) into).dim z →
-          x i ≡ projection p (r - 1) l (slice_index coords) into z v i % p) a_is x_is) below
+      x i ≡ projection p (r - 1) l (slice_index coords) into z v i % p) a_is x_is) below
 
   pub lift_number : (b a i : ℕ) (v u x : ℕ → ℕ) → b ≡ a → ((j : ℕ) → j < stalk_count r into a → v j ≡ u j)
       → ((i : ℕ) → i < (quotient p (r - 1) l (slice_index coords) into).dim b →
-          x i ≡ projection p (r - 1) l (slice_index coords) into b v i % p)
+      x i ≡ projection p (r - 1) l (slice_index coords) into b v i % p)
       → i < stalk_count (r - 1) into a → x i ≡ edge_number p r (slice_index coords) l into a (element_of r into a u) i
   lift_number b a i v u x b_is same x_is below =
       projected_number a i v (element_of r into a u) x
-          (element_respects p r into a v u leads.rank (λ j inside. ap (λ z. z % p) (same j inside)))
+      (element_respects p r into a v u leads.rank (λ j inside. ap (λ z. z % p) (same j inside)))
       (subst (λ z. (i : ℕ) → i < (quotient p (r - 1) l (slice_index coords) into).dim z →
-          x i ≡ projection p (r - 1) l (slice_index coords) into z v i % p) b_is x_is) below
+      x i ≡ projection p (r - 1) l (slice_index coords) into z v i % p) b_is x_is) below

@@ -22,7 +22,7 @@ leads_at : (edges : List Edge) (e p r : ℕ) → e < length edges →
 leads_at [] e p r below prime rank = absurd (let none : e < 0 = below in omega arith)
 leads_at (d ∷ edges) zero p r below prime rank =
     subst (λ p. IsLeading p r (leading_of d.label) (coordinates_of d.label)) prime
-        (subst (λ r. IsLeading (prime_of d.label) r (leading_of d.label) (coordinates_of d.label)) rank d.label.leads)
+    (subst (λ r. IsLeading (prime_of d.label) r (leading_of d.label) (coordinates_of d.label)) rank d.label.leads)
 leads_at (d ∷ edges) (suc e) p r below prime rank = let rest : suc e < suc (length edges) =
     below in leads_at edges e p r (omega arith) prime rank
 
@@ -33,4 +33,4 @@ module _ (G : Graph) (over : IsOverField G) (e : ℕ) (below : e < edge_count G)
   pub label_is : IsLabel G.prime G.rank (label G e) (leading G e)
   label_is =
       label_cases (λ p r. IsLabel p r (slice_index (label_coordinates G e)) (leading G e)) G.prime G.rank (leading G e)
-          (label_coordinates G e) over.two over.inverses label_leads (λ q r is wide one. is)
+      (label_coordinates G e) over.two over.inverses label_leads (λ q r is wide one. is)

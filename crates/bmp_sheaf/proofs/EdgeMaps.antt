@@ -50,15 +50,15 @@ module _ (G : Graph) (over : IsOverField G) (F : SheafData) (d e : ℕ) (inside 
         (element_respects G.prime G.rank (F.degrees (lower G e)) d u v wide same)) i below);
     sums = λ u v i below.
         ap (λ z. z % G.prime)
-            (on_edge_respects G over F d e inside (lift_of G F e d (λ g m. element_below u g m + element_below v g m))
-            (λ g m. lift_of G F e d (element_below u) g m + lift_of G F e d (element_below v) g m)
-            (lift_plus G F e d (element_below u) (element_below v)) i below)
+        (on_edge_respects G over F d e inside (lift_of G F e d (λ g m. element_below u g m + element_below v g m))
+        (λ g m. lift_of G F e d (element_below u) g m + lift_of G F e d (element_below v) g m)
+        (lift_plus G F e d (element_below u) (element_below v)) i below)
         ∙ on_edge-plus G over F d e inside (lift_of G F e d (element_below u)) (lift_of G F e d (element_below v)) i
-            below;
+        below;
     multiples = λ x u i below.
         ap (λ z. z % G.prime)
-            (on_edge_respects G over F d e inside (lift_of G F e d (λ g m. x * element_below u g m))
-            (λ g m. x * lift_of G F e d (element_below u) g m) (lift_times G F e d x (element_below u)) i below)
+        (on_edge_respects G over F d e inside (lift_of G F e d (λ g m. x * element_below u g m))
+        (λ g m. x * lift_of G F e d (element_below u) g m) (lift_times G F e d x (element_below u)) i below)
         ∙ on_edge-times G over F d e inside x (lift_of G F e d (element_below u)) i below;
   }
 
@@ -77,14 +77,14 @@ module _ (G : Graph) (over : IsOverField G) (F : SheafData) (d e : ℕ) (inside 
       % G.prime ≡ from_below u i
   lower_image u i below =
       matrix_of_linear G.prime (stalk_count G.rank (F.degrees (lower G e)) d) (edge_module_count G F d e)
-          (lower_matrix G F d e) from_below from_below_is_linear refl refl (λ i j row column. refl) u i below
+      (lower_matrix G F d e) from_below from_below_is_linear refl refl (λ i j row column. refl) u i below
       ∙ mod-eq_of_lt (on_edge_below G over F d e inside (lift_of G F e d (element_below u)) i)
 
   pub upper_image : (u : ℕ → ℕ) (i : ℕ) → i < edge_module_count G F d e → image (upper_matrix G F d e) u i
       % G.prime ≡ from_above u i
   upper_image u i below =
       matrix_of_linear G.prime (stalk_count G.rank (F.degrees (upper G e)) d) (edge_module_count G F d e)
-          (upper_matrix G F d e) from_above from_above_is_linear refl refl (λ i j row column. refl) u i below
+      (upper_matrix G F d e) from_above from_above_is_linear refl refl (λ i j row column. refl) u i below
       ∙ mod-eq_of_lt (on_edge_below G over F d e inside (element_above u) i)
 
   pub lower_numbers_below : NumbersBelow G.prime (lower_matrix G F d e)

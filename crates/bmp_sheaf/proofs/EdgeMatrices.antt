@@ -31,9 +31,9 @@ module _ (G : Graph) (over : IsOverField G) (F : SheafData) (d e : ℕ) (inside 
     cols = same.cols ∙ sym (free_count G.rank d (F.degrees (lower G e)));
     entries = λ i j row column.
         same.entries i j (omega (arith, row, rows_are))
-            (omega (arith, column, free_count G.rank d (F.degrees (lower G e))))
+        (omega (arith, column, free_count G.rank d (F.degrees (lower G e))))
         ∙ sym (mod-eq_of_lt
-            (on_edge_below G over F d e inside (lift_of G F e d (unit_at G.rank (F.degrees (lower G e)) d j)) i));
+        (on_edge_below G over F d e inside (lift_of G F e d (unit_at G.rank (F.degrees (lower G e)) d j)) i));
   }
 
   pub upper_of_map : SameMatrix a (upper_matrix G F d e) →
@@ -43,14 +43,14 @@ module _ (G : Graph) (over : IsOverField G) (F : SheafData) (d e : ℕ) (inside 
     cols = same.cols ∙ sym (free_count G.rank d (F.degrees (upper G e)));
     entries = λ i j row column.
         same.entries i j (omega (arith, row, rows_are))
-            (omega (arith, column, free_count G.rank d (F.degrees (upper G e))))
+        (omega (arith, column, free_count G.rank d (F.degrees (upper G e))))
         ∙ sym (mod-eq_of_lt (on_edge_below G over F d e inside (unit_at G.rank (F.degrees (upper G e)) d j) i));
   }
 
 -- the module that is kept for an edge is that of the edge
 pub module_kept_is : {T : Type 0} (s : SheafState T) (e : ℕ) (m : Quotient) → IsEdgeModule s e m
     → quotient (prime_of (label_of m)) (rank_of (label_of m) - 1) (leading_of (label_of m)) (coordinate_of (label_of m))
-        (degrees_of (free_of m)) ≡ edge_module s.graph (sheaf_of s) e
+    (degrees_of (free_of m)) ≡ edge_module s.graph (sheaf_of s) e
 module_kept_is s e m is =
     let x = label_of m in
     let gs = degrees_of (free_of m) in

@@ -34,15 +34,15 @@ module _ (p r l : ℕ) (coords : List ℕ) (two : 2 ≤ p) (inverses : HasInvers
   edge_number_at a g s i has inside =
       let degree : d - slice_index degrees g ≡ s = omega (arith, has.1) in
       joined_at (λ h. component_count (r - 1) d (slice_index degrees h))
-          (λ h. normal_number p r (slice_index coords) l (d - slice_index degrees h) (a h)) (length degrees) g i has.0
-          (inside_size (r - 1) d degrees g s i has inside)
+      (λ h. normal_number p r (slice_index coords) l (d - slice_index degrees h) (a h)) (length degrees) g i has.0
+      (inside_size (r - 1) d degrees g s i has inside)
       ∙ ap (λ z. normal_number p r (slice_index coords) l z (a g) i) degree
 
   pub edge_number_below : (a : Element) (k : ℕ) → numbers a k < p
   edge_number_below a k =
       joined_each (λ h. component_count (r - 1) d (slice_index degrees h))
-          (λ h. normal_number p r (slice_index coords) l (d - slice_index degrees h) (a h)) (λ z. z < p)
-          (length degrees) (omega (arith, two))
+      (λ h. normal_number p r (slice_index coords) l (d - slice_index degrees h) (a h)) (λ z. z < p)
+      (length degrees) (omega (arith, two))
       (λ g i below. normal_number_below p r l coords two inverses leads (d - slice_index degrees g) (a g) i) k
 
   pub are_edge_coordinates : (a : Element) → AreEdgeCoordinates p r (slice_index coords) l degrees d a (numbers a)
@@ -51,7 +51,7 @@ module _ (p r l : ℕ) (coords : List ℕ) (two : 2 ≤ p) (inverses : HasInvers
     normal_is p r l coords two inverses leads s (a g),
     (λ m is pure.
         edge_number_at a g s (place (r - 1) (remove m l)) has (pure_place_below l s m r leads.here leads.rank is pure)
-            ∙ normal_number_at p r l coords two inverses leads s (a g) m is pure),
+        ∙ normal_number_at p r l coords two inverses leads s (a g) m is pure),
   )
 
   -- they decide
@@ -60,8 +60,8 @@ module _ (p r l : ℕ) (coords : List ℕ) (two : 2 ≤ p) (inverses : HasInvers
   edge_numbers_same a b h =
       each_component (r - 1) d degrees (λ k. numbers a k ≡ numbers b k)
       (λ g s i has inside. edge_number_at a g s i has inside
-          ∙ normal_numbers_same p r l coords two inverses leads s (a g) (b g) (h g s has) i inside
-          ∙ sym (edge_number_at b g s i has inside))
+      ∙ normal_numbers_same p r l coords two inverses leads s (a g) (b g) (h g s has) i inside
+      ∙ sym (edge_number_at b g s i has inside))
 
   pub same_edge_numbers : (a b : Element) → ((k : ℕ) → k < size → numbers a k ≡ numbers b k) →
       CongruentElement p r degrees (slice_index coords) d a b
@@ -70,8 +70,8 @@ module _ (p r l : ℕ) (coords : List ℕ) (two : 2 ≤ p) (inverses : HasInvers
       (λ i inside.
       sym (edge_number_at a g s i has inside)
       ∙ same (stalk_start (r - 1) degrees d g + i)
-          (within_blocks (λ h. component_count (r - 1) d (slice_index degrees h)) (length degrees) g i has.0
-          (inside_size (r - 1) d degrees g s i has inside))
+      (within_blocks (λ h. component_count (r - 1) d (slice_index degrees h)) (length degrees) g i has.0
+      (inside_size (r - 1) d degrees g s i has inside))
       ∙ edge_number_at b g s i has inside)
 
   -- they are those of the element
@@ -88,7 +88,7 @@ module _ (p r l : ℕ) (coords : List ℕ) (two : 2 ≤ p) (inverses : HasInvers
       ap (λ z. z % p) (edge_number_at (λ g m. a g m + b g m) g s i has inside)
       ∙ normal_number-plus p r l coords two inverses leads s (a g) (b g) i inside
       ∙ ap (λ z. z % p)
-          (sym (ap₂ (λ y z. y + z) (edge_number_at a g s i has inside) (edge_number_at b g s i has inside))))
+      (sym (ap₂ (λ y z. y + z) (edge_number_at a g s i has inside) (edge_number_at b g s i has inside))))
 
   pub edge_number-times : (x : ℕ) (a : Element) → SameVector p size (numbers (λ g m. x * a g m)) (λ k. x * numbers a k)
   edge_number-times x a =
@@ -112,9 +112,9 @@ module _ (p r l : ℕ) (coords : List ℕ) (two : 2 ≤ p) (inverses : HasInvers
   unfolding sum_below
   edge_number-combination c a n k below =
       sum_of_steps p (λ j. numbers (λ g m. sum_below (λ i. c i * a i g m) j) k) (λ j. c j * numbers (a j) k) n
-          (ap (λ z. z % p) (edge_number-zero k below))
+      (ap (λ z. z % p) (edge_number-zero k below))
       (λ j inside.
       edge_number-plus (λ g m. sum_below (λ i. c i * a i g m) j) (λ g m. c j * a j g m) k below
       ∙ same_add p (numbers (λ g m. sum_below (λ i. c i * a i g m) j) k)
-          (numbers (λ g m. sum_below (λ i. c i * a i g m) j) k) (numbers (λ g m. c j * a j g m) k)
-          (c j * numbers (a j) k) refl (edge_number-times (c j) (a j) k below))
+      (numbers (λ g m. sum_below (λ i. c i * a i g m) j) k) (numbers (λ g m. c j * a j g m) k)
+      (c j * numbers (a j) k) refl (edge_number-times (c j) (a j) k below))

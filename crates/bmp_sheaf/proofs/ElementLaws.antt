@@ -44,7 +44,7 @@ module _ (p r : ℕ) (degrees : List ℕ) (d : ℕ) where
   same_combination c u a zero h = λ g s has m is. refl
   same_combination c u a (suc n) h =
       same_plus (λ g m. sum_below (λ j. c j * u j g m) n) (λ g m. c n * u n g m)
-          (λ g m. sum_below (λ j. c j * a j g m) n) (λ g m. c n * a n g m)
+      (λ g m. sum_below (λ j. c j * a j g m) n) (λ g m. c n * a n g m)
       (same_combination c u a n (λ j below. h j (omega arith)))
       (same_times (c n) (u n) (a n) (h n (omega arith)))
 
@@ -99,7 +99,7 @@ module _ (p r : ℕ) (degrees : List ℕ) (c : ℕ → ℕ) (d : ℕ) where
   congruent_combination x u a zero h = same_congruent zero_element zero_element (λ g s has m is. refl)
   congruent_combination x u a (suc n) h =
       congruent_plus (λ g m. sum_below (λ j. x j * u j g m) n) (λ g m. x n * u n g m)
-          (λ g m. sum_below (λ j. x j * a j g m) n) (λ g m. x n * a n g m)
+      (λ g m. sum_below (λ j. x j * a j g m) n) (λ g m. x n * a n g m)
       (congruent_combination x u a n (λ j below. h j (omega arith)))
       (congruent_times (x n) (u n) (a n) (h n (omega arith)))
 

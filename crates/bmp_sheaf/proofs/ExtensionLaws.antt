@@ -31,9 +31,9 @@ module _ (r : ℕ) (degrees : List ℕ) (images : ℕ → Element) where
   extension-plus d u v h m =
       sum_below_same (part d (λ g n. u g n + v g n) h m) (λ g. part d u h m g + part d v h m g) (length degrees)
       (λ g below. elim (leb (degree g) d) as
-          (λ b. cond b (product 6 r (d - degree g) (λ n. u g n + v g n) (images g h) m) 0
-          ≡ cond b (product 6 r (d - degree g) (u g) (images g h) m) 0 + cond b
-          (product 6 r (d - degree g) (v g) (images g h) m) 0) [
+      (λ b. cond b (product 6 r (d - degree g) (λ n. u g n + v g n) (images g h) m) 0
+      ≡ cond b (product 6 r (d - degree g) (u g) (images g h) m) 0 + cond b
+      (product 6 r (d - degree g) (v g) (images g h) m) 0) [
         | true ↦ product-plus r (d - degree g) (images g h) m (u g) (v g)
         | false ↦ refl
       ])
@@ -45,7 +45,7 @@ module _ (r : ℕ) (degrees : List ℕ) (images : ℕ → Element) where
   extension-times d x u h m =
       sum_below_same (part d (λ g n. x * u g n) h m) (λ g. x * part d u h m g) (length degrees)
       (λ g below. elim (leb (degree g) d) as (λ b. cond b (product 6 r (d - degree g) (λ n. x * u g n) (images g h) m) 0
-          ≡ x * cond b (product 6 r (d - degree g) (u g) (images g h) m) 0) [
+      ≡ x * cond b (product 6 r (d - degree g) (u g) (images g h) m) 0) [
         | true ↦ product-times r (d - degree g) (images g h) m x (u g)
         | false ↦ omega arith
       ])
@@ -75,11 +75,11 @@ module _ (r : ℕ) (degrees : List ℕ) (images : ℕ → Element) where
         | inl held ↦
             let within : degree g ≤ d = leb-true (degree g) d held in
             ap (λ z. z % p) (cond-true {A = ℕ} (leb (degree g) d) (product 6 r (d - degree g) (u g) (images g h) m) 0
-                held)
+            held)
             ∙ product_same r (d - degree g) (images g h) m p (u g) (v g) wide
-                (same g (d - degree g) (below, omega arith))
+            (same g (d - degree g) (below, omega arith))
             ∙ ap (λ z. z % p)
-                (sym (cond-true {A = ℕ} (leb (degree g) d) (product 6 r (d - degree g) (v g) (images g h) m) 0 held))
+            (sym (cond-true {A = ℕ} (leb (degree g) d) (product 6 r (d - degree g) (v g) (images g h) m) 0 held))
         | inr past ↦ ap (λ z. z % p)
             (cond-false {A = ℕ} (leb (degree g) d) (product 6 r (d - degree g) (u g) (images g h) m) 0 past
             ∙ sym (cond-false {A = ℕ} (leb (degree g) d) (product 6 r (d - degree g) (v g) (images g h) m) 0 past))
@@ -92,15 +92,15 @@ module _ (r : ℕ) (degrees : List ℕ) (images : ℕ → Element) where
     | inl past ↦
         none (cases_lt t (degree g)) past
         ∙ sym (ap (λ b. shift n (λ e. cond b (product 6 r (d - degree g) (u g) (images g h) e) 0) m)
-            (lt-leb (degree g) d past) ∙ shift-zero n m)
+        (lt-leb (degree g) d past) ∙ shift-zero n m)
     | inr within ↦
         let sizes : t - degree g ≡ k + (d - degree g) = omega arith in
         cond-true {A = ℕ} (leb (degree g) t) (product 6 r (t - degree g) (shift n (u g)) (images g h) m) 0
-            (le-leb (degree g) t (omega arith))
+        (le-leb (degree g) t (omega arith))
         ∙ ap (λ z. product 6 r z (shift n (u g)) (images g h) m) sizes
         ∙ product-shift r k (d - degree g) n m (u g) (images g h) wide is_n long
         ∙ sym (ap (λ b. shift n (λ e. cond b (product 6 r (d - degree g) (u g) (images g h) e) 0) m)
-            (le-leb (degree g) d within))
+        (le-leb (degree g) d within))
   ]
     where
       none : (t < degree g) ⊎ (degree g ≤ t) → d < degree g → part t (monomial_times n u) h m g ≡ 0
@@ -109,9 +109,9 @@ module _ (r : ℕ) (degrees : List ℕ) (images : ℕ → Element) where
           (lt-leb (degree g) t above)
       none (inr below) past =
           cond-true {A = ℕ} (leb (degree g) t) (product 6 r (t - degree g) (shift n (u g)) (images g h) m) 0
-              (le-leb (degree g) t below)
+          (le-leb (degree g) t below)
           ∙ product_none r (t - degree g) (images g h) m (shift n (u g)) wide
-              (λ e is_e. shift_below r k (t - degree g) n e (u g) is_n is_e (omega arith))
+          (λ e is_e. shift_below r k (t - degree g) n e (u g) is_n is_e (omega arith))
 
   pub extension-monomial : (d k t : ℕ) (n : List ℕ) (u : Element) (h : ℕ) (m : List ℕ) → r ≤ 6 → IsMonomial 6 r k n →
       d + k ≡ t → length m ≡ 6 → extension r degrees images t (monomial_times n u) h m
@@ -119,7 +119,7 @@ module _ (r : ℕ) (degrees : List ℕ) (images : ℕ → Element) where
   unfolding extension
   extension-monomial d k t n u h m wide is_n total long =
       sum_below_same (part t (monomial_times n u) h m) (λ g. shift n (λ e. part d u h e g) m) (length degrees)
-          (λ g below. part-monomial d k t n u h m g wide is_n total long)
+      (λ g below. part-monomial d k t n u h m g wide is_n total long)
       ∙ sym (shift-sum_below (λ g e. part d u h e g) (length degrees) n m)
 
   -- a generator's own extension is its image
@@ -128,18 +128,18 @@ module _ (r : ℕ) (degrees : List ℕ) (images : ℕ → Element) where
   unfolding extension
   extension-unit g h s m wide below is =
       sum_below_only (part (degree g) (unit_element g) h m) (length degrees) g below
-          (λ i within other. elim (cases_Bool (leb (degree i) (degree g))) [
+      (λ i within other. elim (cases_Bool (leb (degree i) (degree g))) [
         | inl held ↦
             cond-true {A = ℕ} (leb (degree i) (degree g))
-                (product 6 r (degree g - degree i) (unit_element g i) (images i h) m) 0 held
+            (product 6 r (degree g - degree i) (unit_element g i) (images i h) m) 0 held
             ∙ product_none r (degree g - degree i) (images i h) m (unit_element g i) wide
-                (λ e is_e. cond-false {A = ℕ} (eqb i g) 1 0 (ne_eqb i g other))
+            (λ e is_e. cond-false {A = ℕ} (eqb i g) 1 0 (ne_eqb i g other))
         | inr past ↦ cond-false {A = ℕ} (leb (degree i) (degree g))
             (product 6 r (degree g - degree i) (unit_element g i) (images i h) m) 0 past
       ])
       ∙ cond-true {A = ℕ} (leb (degree g) (degree g))
-          (product 6 r (degree g - degree g) (unit_element g g) (images g h) m) 0
-          (le-leb (degree g) (degree g) (omega arith))
+      (product 6 r (degree g - degree g) (unit_element g g) (images g h) m) 0
+      (le-leb (degree g) (degree g) (omega arith))
       ∙ ap₂ (λ k (a : Form). product 6 r k a (images g h) m) own one
       ∙ product-one r s (images g h) m wide is
     where

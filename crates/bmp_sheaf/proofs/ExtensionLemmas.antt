@@ -12,7 +12,7 @@ term_of_least : (r d : ℕ) (a b : Form) (m : List ℕ) → cond (leb 0 d) (prod
 term_of_least r d a b m =
     let whole : d - 0 ≡ d = omega arith in
     cond-true {A = ℕ} (leb 0 d) (product 6 r (d - 0) a b m) 0 (le-leb 0 d (omega arith))
-        ∙ ap (λ k. product 6 r k a b m) whole
+    ∙ ap (λ k. product 6 r k a b m) whole
 
 -- from one generator of degree 0
 pub extension_one : (r d : ℕ) (images : ℕ → Element) (u : Element) (h : ℕ) (m : List ℕ) →
@@ -20,7 +20,7 @@ pub extension_one : (r d : ℕ) (images : ℕ → Element) (u : Element) (h : �
 unfolding extension
 extension_one r d images u h m =
     let f : ℕ → ℕ = λ g. cond (leb (slice_index (0 ∷ []) g) d)
-        (product 6 r (d - slice_index (0 ∷ []) g) (u g) (images g h) m) 0 in
+    (product 6 r (d - slice_index (0 ∷ []) g) (u g) (images g h) m) 0 in
     let first : f 0 ≡ product 6 r d (u 0) (images 0 h) m = term_of_least r d (u 0) (images 0 h) m in
     sum_below-suc f 0 ∙ omega (arith, sum_below-zero f, first)
 
@@ -30,7 +30,7 @@ pub extension_two : (r d : ℕ) (images : ℕ → Element) (u : Element) (h : �
 unfolding extension
 extension_two r d images u h m =
     let f : ℕ → ℕ = λ g. cond (leb (slice_index (0 ∷ 0 ∷ []) g) d)
-        (product 6 r (d - slice_index (0 ∷ 0 ∷ []) g) (u g) (images g h) m) 0 in
+    (product 6 r (d - slice_index (0 ∷ 0 ∷ []) g) (u g) (images g h) m) 0 in
     let first : f 0 ≡ product 6 r d (u 0) (images 0 h) m = term_of_least r d (u 0) (images 0 h) m in
     let second : f 1 ≡ product 6 r d (u 1) (images 1 h) m = term_of_least r d (u 1) (images 1 h) m in
     sum_below-suc f 1 ∙ omega (arith, sum_below-suc f 0, sum_below-zero f, first, second)

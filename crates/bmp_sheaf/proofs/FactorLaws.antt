@@ -21,7 +21,7 @@ module _ (r d : ℕ) (c : Form) (h : List ℕ) where
   unfolding product
   product-plus a b =
       sum_below_same (λ i. (a (at i) + b (at i)) * rest i) (λ i. a (at i) * rest i + b (at i) * rest i) (count r d)
-          (λ i below. split (a (at i)) (b (at i)) (rest i))
+      (λ i below. split (a (at i)) (b (at i)) (rest i))
       ∙ sum_below-add (λ i. a (at i) * rest i) (λ i. b (at i) * rest i) (count r d)
     where
       split : (x y z : ℕ) → (x + y) * z ≡ x * z + y * z
@@ -31,7 +31,7 @@ module _ (r d : ℕ) (c : Form) (h : List ℕ) where
   unfolding product
   product-times x a =
       sum_below_same (λ i. (x * a (at i)) * rest i) (λ i. x * (a (at i) * rest i)) (count r d)
-          (λ i below. regroup x (a (at i)) (rest i))
+      (λ i below. regroup x (a (at i)) (rest i))
       ∙ sum_below-mul x (λ i. a (at i) * rest i) (count r d)
     where
       regroup : (x y z : ℕ) → (x * y) * z ≡ x * (y * z)
@@ -41,8 +41,8 @@ module _ (r d : ℕ) (c : Form) (h : List ℕ) where
   unfolding product
   product_none a wide none =
       sum_below_same (λ i. a (at i) * rest i) (λ i. 0) (count r d)
-          (λ i below. let stands : StandsAt 6 r d i (at i) = exponents_stand 6 r d i wide below in
-          ap (λ z. z * rest i) (none (at i) stands.monomial) ∙ nothing (rest i))
+      (λ i below. let stands : StandsAt 6 r d i (at i) = exponents_stand 6 r d i wide below in
+      ap (λ z. z * rest i) (none (at i) stands.monomial) ∙ nothing (rest i))
       ∙ sum_below-zeros (count r d)
     where
       nothing : (x : ℕ) → 0 * x ≡ 0
@@ -54,4 +54,4 @@ module _ (r d : ℕ) (c : Form) (h : List ℕ) where
   product_same p a b wide same =
       sum_same_mod p (λ i. a (at i) * rest i) (λ i. b (at i) * rest i) (count r d)
       (λ i below. let stands : StandsAt 6 r d i (at i) = exponents_stand 6 r d i wide below in
-          same_mul p (a (at i)) (b (at i)) (rest i) (rest i) (same (at i) stands.monomial) refl)
+      same_mul p (a (at i)) (b (at i)) (rest i) (rest i) (same (at i) stands.monomial) refl)

@@ -30,7 +30,7 @@ module _ {F : Type 0} (G : Graph) (f : F) (D : ℕ) (ts : List StalkTable) (n : 
         let old : IsThere all y = (there.0, omega (arith, there.1, counts, length-take n ts, length-map ts stalk_in)) in
         subst (IsStalkTable fewer y) (sym (get_or-take n ts (vertex_count G - 1 - y) no_table inside))
         (table_same all f fewer.stalks is y
-            (upper_ends all f fewer.stalks is y (λ z past below. stalk_first z (omega (arith, past, inside))))
+        (upper_ends all f fewer.stalks is y (λ z past below. stalk_first z (omega (arith, past, inside))))
         (stalk_first y inside) (get_or ts (vertex_count G - 1 - y) no_table) (h.each y old));
   }
 
@@ -39,8 +39,13 @@ pub kept_first : {F : Type 0} {p : ℕ} {G : Graph} {f : F} {D : ℕ} {labels : 
     → IsKept p (state_of G f D (take n ts)) labels us (take n ts)
 kept_first {G = G} {f = f} {D = D} {ts = ts} h n = record {
   prime = h.prime;
-  state = record { over = h.state.over; some = h.state.some; wide = h.state.wide; few = h.state.few;
-      bound = h.state.bound };
+  state = record {
+    over = h.state.over;
+    some = h.state.some;
+    wide = h.state.wide;
+    few = h.state.few;
+    bound = h.state.bound;
+  };
   normal_forms = h.normal_forms;
   upper_maps = h.upper_maps;
   stalks = first_tables G f D ts n h.state.over.is_graph h.stalks;

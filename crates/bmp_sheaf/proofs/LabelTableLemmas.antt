@@ -50,25 +50,28 @@ different_more : (tables : List NormalTable) (u : NormalTable) → AreByDifferen
 different_more tables u h new i j t before inside =
     let most : j < length tables + 1 = omega (arith, inside, length_more tables u) in
     let kept : (k : ℕ) → k < length tables → get_or (tables ++ u ∷ []) k t ≡ get_or tables k t =
-        λ k below. get_or_append_left tables (u ∷ []) t k below in
+    λ k below. get_or_append_left tables (u ∷ []) t k below in
     let first : i < length tables = omega arith in
     elim (cases_eq j (length tables)) [
       | inl last ↦ λ by.
           let at : get_or (tables ++ u ∷ []) j t ≡ u = get_or_push tables u t j (sym last) in
           new i t first (subst (λ z. IsBy (get_or tables i t) (label_of z)) at
-              (subst (λ z. IsBy z (label_of (get_or (tables ++ u ∷ []) j t))) (kept i first) by))
+          (subst (λ z. IsBy z (label_of (get_or (tables ++ u ∷ []) j t))) (kept i first) by))
       | inr other ↦ λ by.
           let second : j < length tables = omega arith in
           h i j t before second
-              (subst (λ z. IsBy (get_or tables i t) (label_of z)) (kept j second)
-              (subst (λ z. IsBy z (label_of (get_or (tables ++ u ∷ []) j t))) (kept i first) by))
+          (subst (λ z. IsBy (get_or tables i t) (label_of z)) (kept j second)
+          (subst (λ z. IsBy z (label_of (get_or (tables ++ u ∷ []) j t))) (kept i first) by))
     ]
 
 module _ (G : Graph) (D : ℕ) where
   pub tabled_none : IsTabled G D 0 [] []
-  tabled_none = record { each = record { sized = refl; each = λ e below. absurd (omega arith) };
-      degrees = λ k d below. absurd (let none : k < 0 = below in omega arith); different =
-      λ i j t before below. absurd (let none : j < 0 = below in omega arith) }
+  tabled_none = record {
+    each = record { sized = refl; each = λ e below. absurd (omega arith) };
+    degrees = λ k d below. absurd (let none : k < 0 = below in omega arith);
+    different =
+        λ i j t before below. absurd (let none : j < 0 = below in omega arith);
+  }
 
   -- one edge more
   tables_more : (n k : ℕ) (old new : List NormalTable) (numbers : List ℕ) → HasTables G D n old numbers →
@@ -83,7 +86,7 @@ module _ (G : Graph) (D : ℕ) where
           | inr other ↦
               let before : e < n = omega arith in
               let at : get_or (numbers ++ k ∷ []) e 0 ≡ get_or numbers e 0 =
-                  get_or_append_left numbers (k ∷ []) 0 e (omega (arith, sized, before)) in
+              get_or_append_left numbers (k ∷ []) 0 e (omega (arith, sized, before)) in
               let table : HasTable G D old (get_or numbers e 0) e = h.each e before in
               subst (λ z. HasTable G D new z e) (sym at) (record {
                 number = omega (arith, table.number, more.longer);
@@ -97,8 +100,13 @@ module _ (G : Graph) (D : ℕ) where
       (numbers : List ℕ) (k : ℕ) (h : IsTabled G D e tables numbers) where
     table_by : (t : NormalTable) → IsBy t x → degrees_of t ≡ D + 1 → IsTableOf G D e t
     table_by t by degrees =
-        record { prime = ap prime_of by ∙ prime; rank = ap rank_of by ∙ rank; leading = ap leading_of by ∙ lead;
-        coordinates = ap coordinate_of by ∙ coordinates; degrees = degrees }
+        record {
+          prime = ap prime_of by ∙ prime;
+          rank = ap rank_of by ∙ rank;
+          leading = ap leading_of by ∙ lead;
+          coordinates = ap coordinate_of by ∙ coordinates;
+          degrees = degrees;
+        }
 
     -- a table that was there
     pub tabled_found : k < length tables → ((t : NormalTable) → k < length tables → IsBy (get_or tables k t) x) →

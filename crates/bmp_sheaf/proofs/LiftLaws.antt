@@ -76,27 +76,27 @@ module _ (G : Graph) (F : SheafData) (e : ℕ) where
       LiftsTo d (λ g m. u g m + v g m) (λ g m. a g m + b g m)
   lifts_plus d u v a b h f =
       led d (lift_of G F e d (λ g m. u g m + v g m)) (λ g m. lift_of G F e d u g m + lift_of G F e d v g m)
-          (λ g m. a g m + b g m) (lift_plus d u v)
+      (λ g m. a g m + b g m) (lift_plus d u v)
       (congruent_plus G.prime G.rank (F.degrees (upper G e)) (label G e) d (lift_of G F e d u) (lift_of G F e d v) a b h
-          f)
+      f)
 
   pub lifts_times : (d x : ℕ) (u a : Element) → LiftsTo d u a → LiftsTo d (λ g m. x * u g m) (λ g m. x * a g m)
   lifts_times d x u a h =
       led d (lift_of G F e d (λ g m. x * u g m)) (λ g m. x * lift_of G F e d u g m) (λ g m. x * a g m)
-          (lift_times d x u)
+      (lift_times d x u)
       (congruent_times G.prime G.rank (F.degrees (upper G e)) (label G e) d x (lift_of G F e d u) a h)
 
   pub lifts_combination : (d : ℕ) (c : ℕ → ℕ) (u a : ℕ → Element) (n : ℕ) → ((j : ℕ) → j < n → LiftsTo d (u j) (a j)) →
       LiftsTo d (λ g m. sum_below (λ j. c j * u j g m) n) (λ g m. sum_below (λ j. c j * a j g m) n)
   lifts_combination d c u a n h =
       led d (lift_of G F e d (λ g m. sum_below (λ j. c j * u j g m) n))
-          (λ g m. sum_below (λ j. c j * lift_of G F e d (u j) g m) n) (λ g m. sum_below (λ j. c j * a j g m) n)
-          (lift_combination d c u n)
+      (λ g m. sum_below (λ j. c j * lift_of G F e d (u j) g m) n) (λ g m. sum_below (λ j. c j * a j g m) n)
+      (lift_combination d c u n)
       (congruent_combination G.prime G.rank (F.degrees (upper G e)) (label G e) d c (λ j. lift_of G F e d (u j)) a n h)
 
   pub lifts_monomial : (d k t : ℕ) (n : List ℕ) (u a : Element) → G.rank ≤ 6 → IsMonomial 6 G.rank k n → d + k ≡ t →
       LiftsTo d u a → LiftsTo t (monomial_times n u) (monomial_times n a)
   lifts_monomial d k t n u a wide is_n total h =
       led t (lift_of G F e t (monomial_times n u)) (monomial_times n (lift_of G F e d u)) (monomial_times n a)
-          (lift_monomial d k t n u wide is_n total)
+      (lift_monomial d k t n u wide is_n total)
       (congruent_monomial G.prime G.rank (F.degrees (upper G e)) (label G e) d k t n (lift_of G F e d u) a is_n total h)

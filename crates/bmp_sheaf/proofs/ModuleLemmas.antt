@@ -48,7 +48,7 @@ total_below n gs zero inside = refl
 total_below n gs (suc h) inside =
     let next : suc h ≡ h + 1 = omega arith in
     let more : total n (take (suc h) gs) ≡ total n (take h gs) + n (get_or gs h 0) =
-        rw next (total_taken n gs h 0 (omega arith)) in
+    rw next (total_taken n gs h 0 (omega arith)) in
     more ∙ ap (λ z. z + n (get_or gs h 0)) (total_below n gs h (omega arith))
 
 -- how many coordinates a generator has
@@ -64,14 +64,14 @@ pub start_is : (r d h : ℕ) (gs : List ℕ) → h ≤ length gs → start_of r 
 start_is r d h gs inside =
     total_below (block_dim (polynomials r) d) gs h inside
     ∙ sum_below_same (λ k. block_dim (polynomials r) d (slice_index gs k)) (λ k. component_count r d (slice_index gs k))
-        h (λ k below. free_block r d (slice_index gs k))
+    h (λ k below. free_block r d (slice_index gs k))
 
 quotient_start : (r l d h : ℕ) (normal : ℕ → Form → Form) (gs : List ℕ) → h ≤ length gs →
     total (block_dim (reduced r l normal) d) (take h gs) ≡ stalk_start r gs d h
 quotient_start r l d h normal gs inside =
     total_below (block_dim (reduced r l normal) d) gs h inside
     ∙ sum_below_same (λ k. block_dim (reduced r l normal) d (slice_index gs k))
-        (λ k. component_count r d (slice_index gs k)) h (λ k below. quotient_block r l d (slice_index gs k) normal)
+    (λ k. component_count r d (slice_index gs k)) h (λ k below. quotient_block r l d (slice_index gs k) normal)
 
 -- the dimensions are the numbers of coordinates
 pub free_count : (r d : ℕ) (gs : List ℕ) → (free r gs).dim d ≡ stalk_count r gs d
@@ -82,7 +82,7 @@ pub quotient_count : (p r l d : ℕ) (c : ℕ → ℕ) (gs : List ℕ) → (quot
 quotient_count p r l d c gs =
     let X : Graded = reduced r l (normal_by p (suc r) l c) in
     copies_dim (reduced r l (normal_by p (suc r) l c)) d gs
-        ∙ sym (total_front (block_dim (reduced r l (normal_by p (suc r) l c)) d) gs)
+    ∙ sym (total_front (block_dim (reduced r l (normal_by p (suc r) l c)) d) gs)
     ∙ quotient_start r l d (length gs) (normal_by p (suc r) l c) gs (omega arith)
 
 -- the polynomials are those of the element
@@ -97,7 +97,7 @@ generator_same p r g gs v is h s has m is_m =
     let least : slice_index gs h ≤ slice_index gs g = omega (arith, has.1) in
     let whole : slice_index gs g - slice_index gs h ≡ s = omega (arith, has.1) in
     ap (λ z. z % p) (ap (λ (a : List ℕ → ℕ). a m) (sym (component_is r (slice_index gs g) h gs v has.0))
-        ∙ is h m has.0 least (subst (λ z. IsMonomial 6 r z m) (sym whole) is_m))
+    ∙ is h m has.0 least (subst (λ z. IsMonomial 6 r z m) (sym whole) is_m))
 
 -- equal modulo the linear form is congruent
 module _ (p r d : ℕ) (c : ℕ → ℕ) (gs : List ℕ) (u v : ℕ → ℕ) where
@@ -108,17 +108,17 @@ module _ (p r d : ℕ) (c : ℕ → ℕ) (gs : List ℕ) (u v : ℕ → ℕ) whe
       let whole : d - slice_index gs g ≡ s = omega (arith, has.1) in
       subst (λ z. Congruent p 6 r z c (element_of r gs d u g) (element_of r gs d v g)) whole
       (subst (λ (a : Form). Congruent p 6 r (d - slice_index gs g) c a (element_of r gs d v g))
-          (component_is r d g gs u has.0)
+      (component_is r d g gs u has.0)
       (subst (λ (b : Form). Congruent p 6 r (d - slice_index gs g) c (component r gs g d u) b)
-          (component_is r d g gs v has.0) (same g has.0 least)))
+      (component_is r d g gs v has.0) (same g has.0 least)))
 
   congruent_same_modulo : CongruentElement p r gs c d (element_of r gs d u) (element_of r gs d v) →
       IsSameModulo p r c gs d u v
   congruent_same_modulo same g inside least =
       subst (λ (a : Form). Congruent p 6 r (d - slice_index gs g) c a (component r gs g d v))
-          (sym (component_is r d g gs u inside))
+      (sym (component_is r d g gs u inside))
       (subst (λ (b : Form). Congruent p 6 r (d - slice_index gs g) c (element_of r gs d u g) b)
-          (sym (component_is r d g gs v inside)) (same g (d - slice_index gs g) (inside, omega arith)))
+      (sym (component_is r d g gs v inside)) (same g (d - slice_index gs g) (inside, omega arith)))
 
   pub same_modulo_is_congruent : IsSameModulo p r c gs d u v ↔
       CongruentElement p r gs c d (element_of r gs d u) (element_of r gs d v)
@@ -145,12 +145,16 @@ free_acts r k d t h s gs m e v wide is_m sizes has is_e =
     let within : h ≤ length gs = omega arith in
     let w : ℕ → ℕ = λ i. v (start_of r gs d h + i) in
     let room : place r e < block_dim (polynomials r) t (slice_index gs h) =
-        omega (arith, place_below 6 r s e wide is_e, free_block r t (slice_index gs h),
-        component_is_count r s t (slice_index gs h) has.1) in
+    omega (
+      arith,
+      place_below 6 r s e wide is_e,
+      free_block r t (slice_index gs h),
+      component_is_count r s t (slice_index gs h) has.1,
+    ) in
     ap (λ z. (free r gs).act m d t v (z + place r e)) (sym (start_is r t h gs within))
     ∙ copies_act (polynomials r) m d t gs v (start_of r gs t h + place r e)
     ∙ blockwise_at (block_dim (polynomials r) d) (block_dim (polynomials r) t) (block_act (polynomials r) m d t) gs v h
-        (place r e) inside room
+    (place r e) inside room
     ∙ elim (cases_lt d (slice_index gs h)) [
       | inl before ↦
           moved_act_none (polynomials r) (slice_index gs h) d t (place r e) m (λ i. v (start_of r gs d h + i)) before
@@ -158,24 +162,24 @@ free_acts r k d t h s gs m e v wide is_m sizes has is_e =
       | inr from ↦
           moved_act_from (polynomials r) (slice_index gs h) d t (place r e) m (λ i. v (start_of r gs d h + i)) from
           ∙ polynomial_acts r (d - slice_index gs h) (t - slice_index gs h) s (start_of r gs d h) (stalk_start r gs d h)
-              m e v wide (omega (arith, has.1)) (start_is r d h gs within) is_e
+          m e v wide (omega (arith, has.1)) (start_is r d h gs within) is_e
     ]
 
 -- coordinates on an edge are those of the projection
 projection_at : (p r l d h i : ℕ) (c : ℕ → ℕ) (gs : List ℕ) (u : ℕ → ℕ) → h < length gs →
     i < component_count r d (slice_index gs h) →
     projection p r l c gs d u (stalk_start r gs d h + i) ≡ normal_by p (suc r) l c (d - slice_index gs h)
-        (element_of (suc r) gs d u h) (insert l (exponents 5 r (d - slice_index gs h) i))
+    (element_of (suc r) gs d u h) (insert l (exponents 5 r (d - slice_index gs h) i))
 projection_at p r l d h i c gs u inside below =
     let X : Graded = reduced r l (normal_by p (suc r) l c) in
     let within : h ≤ length gs = omega arith in
     let room : i < block_dim (reduced r l (normal_by p (suc r) l c)) d (slice_index gs h) =
-        omega (arith, below, quotient_block r l d (slice_index gs h) (normal_by p (suc r) l c)) in
+    omega (arith, below, quotient_block r l d (slice_index gs h) (normal_by p (suc r) l c)) in
     ap (λ z. projection p r l c gs d u (z + i)) (sym (quotient_start r l d h (normal_by p (suc r) l c) gs within))
     ∙ blockwise_at (block_dim (polynomials (suc r)) d) (block_dim (reduced r l (normal_by p (suc r) l c)) d)
-        (λ g. project_one p r l c (d - g)) gs u h i inside room
+    (λ g. project_one p r l c (d - g)) gs u h i inside room
     ∙ ap (λ z. normal_by p (suc r) l c (d - slice_index gs h) (λ e. u (z + place (suc r) e))
-        (insert l (exponents 5 r (d - slice_index gs h) i))) (start_is (suc r) d h gs within)
+    (insert l (exponents 5 r (d - slice_index gs h) i))) (start_is (suc r) d h gs within)
 
 pub edge_number_is : (p r l d i : ℕ) (c : ℕ → ℕ) (gs : List ℕ) (u : ℕ → ℕ) → 0 < r → i < stalk_count (r - 1) gs d →
     edge_number p r c l gs d (element_of r gs d u) i ≡ projection p (r - 1) l c gs d u i % p
@@ -184,12 +188,12 @@ edge_number_is p (suc r) l d i c gs u some below =
     let less_one : suc r - 1 ≡ r = omega arith in
     let inside : i < stalk_count r gs d = subst (λ z. i < stalk_count z gs d) less_one below in
     let numbers : ℕ → ℕ → ℕ → ℕ =
-        λ z g j. normal_by p (suc r) l c (d - slice_index gs g) (element_of (suc r) gs d u g)
-        (insert l (exponents 5 z (d - slice_index gs g) j)) % p in
+    λ z g j. normal_by p (suc r) l c (d - slice_index gs g) (element_of (suc r) gs d u g)
+    (insert l (exponents 5 z (d - slice_index gs g) j)) % p in
     subst (λ z. joined (λ g. component_count z d (slice_index gs g)) (numbers z) (length gs) i
-        ≡ projection p z l c gs d u i % p) (sym less_one)
+    ≡ projection p z l c gs d u i % p) (sym less_one)
     (each_component r d gs (λ k. joined (λ g. component_count r d (slice_index gs g)) (numbers r) (length gs) k
-        ≡ projection p r l c gs d u k % p)
+    ≡ projection p r l c gs d u k % p)
     (λ g s j has within.
     let room : j < component_count r d (slice_index gs g) = inside_size r d gs g s j has within in
     joined_at (λ h. component_count r d (slice_index gs h)) (numbers r) (length gs) g j has.0 room
@@ -222,29 +226,29 @@ module _ (p r l : ℕ) (coords : List ℕ) (two : 2 ≤ p) (inverses : HasInvers
   edge_acts k d t m u is_m sizes i below =
       let v : ℕ → ℕ = stalk_number r gs d u in
       let whole : SameElement p r gs d (element_of r gs d (stalk_number r gs d u)) u =
-          element_of_numbers r gs d p u leads.rank in
+      element_of_numbers r gs d p u leads.rank in
       let maps : IsModuleMap p r (free r gs) (quotient p (r - 1) l (slice_index coords) gs)
-          (projection p (r - 1) l (slice_index coords) gs) = projections_are_maps p r l coords gs two inverses leads in
+      (projection p (r - 1) l (slice_index coords) gs) = projections_are_maps p r l coords gs two inverses leads in
       let laws : IsModule p r (quotient p (r - 1) l (slice_index coords) gs) =
-          quotients_are_modules p r l coords gs two inverses leads in
+      quotients_are_modules p r l coords gs two inverses leads in
       let acted : SameElement p r gs t (element_of r gs t ((free r gs).act m d t (stalk_number r gs d u)))
-          (monomial_times m u) =
+      (monomial_times m u) =
       same_chained p r gs t (element_of r gs t ((free r gs).act m d t (stalk_number r gs d u)))
-          (monomial_times m (element_of r gs d (stalk_number r gs d u))) (monomial_times m u)
+      (monomial_times m (element_of r gs d (stalk_number r gs d u))) (monomial_times m u)
       (λ h s has e is_e. ap (λ z. z % p)
-          (free_acts r k d t h s gs m e (stalk_number r gs d u) leads.rank is_m sizes has is_e))
+      (free_acts r k d t h s gs m e (stalk_number r gs d u) leads.rank is_m sizes has is_e))
       (same_monomial p r gs d k t m (element_of r gs d (stalk_number r gs d u)) u is_m sizes whole) in
       (laws.linear m k d t is_m sizes).respects (numbers d u)
-          (projection p (r - 1) l (slice_index coords) gs d (stalk_number r gs d u))
+      (projection p (r - 1) l (slice_index coords) gs d (stalk_number r gs d u))
       (λ j inside. ap (λ z. z % p)
-          (sym (edge_number_respects p r l coords two inverses leads gs d (element_of r gs d (stalk_number r gs d u)) u
-          whole j (rows_below d j inside))) ∙ projected d (stalk_number r gs d u) j inside) i below
+      (sym (edge_number_respects p r l coords two inverses leads gs d (element_of r gs d (stalk_number r gs d u)) u
+      whole j (rows_below d j inside))) ∙ projected d (stalk_number r gs d u) j inside) i below
       ∙ sym (maps.acts m k d t (stalk_number r gs d u) is_m sizes i below)
       ∙ sym (projected t ((free r gs).act m d t (stalk_number r gs d u)) i below)
       ∙ ap (λ z. z % p)
-          (edge_number_respects p r l coords two inverses leads gs t
-          (element_of r gs t ((free r gs).act m d t (stalk_number r gs d u))) (monomial_times m u) acted i
-          (rows_below t i below))
+      (edge_number_respects p r l coords two inverses leads gs t
+      (element_of r gs t ((free r gs).act m d t (stalk_number r gs d u))) (monomial_times m u) acted i
+      (rows_below t i below))
 
   -- the map from the stalk at the upper end is a module map
   pub upper_is_map : IsModuleMap p r (free r gs) Q (λ d u. numbers d (element_of r gs d u))
@@ -252,9 +256,9 @@ module _ (p r l : ℕ) (coords : List ℕ) (two : 2 ≤ p) (inverses : HasInvers
     linear = λ d. record {
       respects = λ u v same i below.
           ap (λ z. z % p) (edge_number_respects p r l coords two inverses leads gs d (element_of r gs d u)
-              (element_of r gs d v)
+          (element_of r gs d v)
           (element_respects p r gs d u v leads.rank (λ j inside. same j (omega (arith, inside, free_count r d gs)))) i
-              (rows_below d i below));
+          (rows_below d i below));
       sums = λ u v i below. edge_number-plus p r l coords two inverses leads gs d (element_of r gs d u)
           (element_of r gs d v) i (rows_below d i below);
       multiples = λ x u i below. edge_number-times p r l coords two inverses leads gs d x (element_of r gs d u) i
@@ -262,9 +266,9 @@ module _ (p r l : ℕ) (coords : List ℕ) (two : 2 ≤ p) (inverses : HasInvers
     };
     acts = λ m k d t u is_m sizes i below.
         ap (λ z. z % p) (edge_number_respects p r l coords two inverses leads gs t
-            (element_of r gs t ((free r gs).act m d t u)) (monomial_times m (element_of r gs d u))
+        (element_of r gs t ((free r gs).act m d t u)) (monomial_times m (element_of r gs d u))
         (λ h s has e is_e. ap (λ z. z % p) (free_acts r k d t h s gs m e u leads.rank is_m sizes has is_e)) i
-            (rows_below t i below))
+        (rows_below t i below))
         ∙ sym (edge_acts k d t m (element_of r gs d u) is_m sizes i below);
   }
 
@@ -275,40 +279,40 @@ module _ (p r l : ℕ) (coords : List ℕ) (two : 2 ≤ p) (inverses : HasInvers
     linear = λ d. record {
       respects = λ u v same i below.
           ap (λ z. z % p) (edge_number_respects p r l coords two inverses leads gs d
-              (extension r from images d (element_of r from d u)) (extension r from images d (element_of r from d v))
+          (extension r from images d (element_of r from d u)) (extension r from images d (element_of r from d v))
           (λ h s has m is_m. extension_same r from images p d (element_of r from d u) (element_of r from d v) leads.rank
-              (element_respects p r from d u v leads.rank
-              (λ j inside. same j (omega (arith, inside, free_count r d from)))) h m) i (rows_below d i below));
+          (element_respects p r from d u v leads.rank
+          (λ j inside. same j (omega (arith, inside, free_count r d from)))) h m) i (rows_below d i below));
       sums = λ u v i below.
           ap (λ z. z % p) (edge_number_respects p r l coords two inverses leads gs d
-              (extension r from images d (element_of r from d (plus u v)))
-              (λ h m. extension r from images d (element_of r from d u) h m + extension r from images d
-              (element_of r from d v) h m)
+          (extension r from images d (element_of r from d (plus u v)))
+          (λ h m. extension r from images d (element_of r from d u) h m + extension r from images d
+          (element_of r from d v) h m)
           (λ h s has m is_m. ap (λ z. z % p)
-              (extension-plus r from images d (element_of r from d u) (element_of r from d v) h m)) i
-              (rows_below d i below))
+          (extension-plus r from images d (element_of r from d u) (element_of r from d v) h m)) i
+          (rows_below d i below))
           ∙ edge_number-plus p r l coords two inverses leads gs d (extension r from images d (element_of r from d u))
-              (extension r from images d (element_of r from d v)) i (rows_below d i below);
+          (extension r from images d (element_of r from d v)) i (rows_below d i below);
       multiples = λ x u i below.
           ap (λ z. z % p) (edge_number_respects p r l coords two inverses leads gs d
-              (extension r from images d (element_of r from d (scaled x u)))
-              (λ h m. x * extension r from images d (element_of r from d u) h m)
+          (extension r from images d (element_of r from d (scaled x u)))
+          (λ h m. x * extension r from images d (element_of r from d u) h m)
           (λ h s has m is_m. ap (λ z. z % p) (extension-times r from images d x (element_of r from d u) h m)) i
-              (rows_below d i below))
+          (rows_below d i below))
           ∙ edge_number-times p r l coords two inverses leads gs d x (extension r from images d (element_of r from d u))
-              i (rows_below d i below);
+          i (rows_below d i below);
     };
     acts = λ m k d t u is_m sizes i below.
         ap (λ z. z % p) (edge_number_respects p r l coords two inverses leads gs t
-            (extension r from images t (element_of r from t ((free r from).act m d t u)))
-            (monomial_times m (extension r from images d (element_of r from d u)))
+        (extension r from images t (element_of r from t ((free r from).act m d t u)))
+        (monomial_times m (extension r from images d (element_of r from d u)))
         (λ h s has n is_n.
         extension_same r from images p t (element_of r from t ((free r from).act m d t u))
-            (monomial_times m (element_of r from d u)) leads.rank
-            (λ g a has_g e is_e. ap (λ z. z % p) (free_acts r k d t g a from m e u leads.rank is_m sizes has_g is_e)) h
-            n
+        (monomial_times m (element_of r from d u)) leads.rank
+        (λ g a has_g e is_e. ap (λ z. z % p) (free_acts r k d t g a from m e u leads.rank is_m sizes has_g is_e)) h
+        n
         ∙ ap (λ z. z % p)
-            (extension-monomial r from images d k t m (element_of r from d u) h n leads.rank is_m sizes is_n.long)) i
-            (rows_below t i below))
+        (extension-monomial r from images d k t m (element_of r from d u) h n leads.rank is_m sizes is_n.long)) i
+        (rows_below t i below))
         ∙ sym (edge_acts k d t m (extension r from images d (element_of r from d u)) is_m sizes i below);
   }

@@ -42,33 +42,33 @@ extension_images r degrees images others d same =
     let term : (ℕ → Element) → Element → ℕ → List ℕ → ℕ → ℕ =
     λ im u h m g. cond (leb (slice_index degrees g) d) (product 6 r (d - slice_index degrees g) (u g) (im g h) m) 0 in
     fun_ext (λ u. fun_ext
-        (λ h. fun_ext (λ m. sum_below_same (term images u h m) (term others u h m) (length degrees)
-        (λ g below. ap (λ (a : Element). cond (leb (slice_index degrees g) d)
-        (product 6 r (d - slice_index degrees g) (u g) (a h) m) 0) (same g below)))))
+    (λ h. fun_ext (λ m. sum_below_same (term images u h m) (term others u h m) (length degrees)
+    (λ g below. ap (λ (a : Element). cond (leb (slice_index degrees g) d)
+    (product 6 r (d - slice_index degrees g) (u g) (a h) m) 0) (same g below)))))
 
 -- the maps by a table, by lists of degrees and by lifts, where these are the edge's own
 module _ (G : Graph) (F : SheafData) (D e d n : ℕ) (t : NormalTable) (table : IsTableOf G D e t) (rank : n ≡ G.rank)
-    where
-  pub lower_map_is : (from into : List ℕ) (lifts : List (List Entry)) → from ≡ F.degrees (lower G e) →
-      into ≡ F.degrees (upper G e) → ((g : ℕ) → g < length from → lift_by G.rank from into lifts g ≡ F.lift e g)
-      → lower_map (prime_of (label_of t)) n (coordinate_of (label_of t)) (leading_of (label_of t)) from into lifts d
-          ≡ lower_matrix G F d e
-  lower_map_is from into lifts below above same =
-      let x = label_of t in
-      let M : ℕ → ℕ → (ℕ → ℕ) → ℕ → Matrix = λ p r c l. lower_map p r c l from into lifts d in
-      let N : List ℕ → List ℕ → (Element → Element) → Matrix =
-      λ a b lift. record {
-        rows = stalk_count (G.rank - 1) b d;
-        cols = stalk_count G.rank a d;
-        entry = λ i j. edge_number G.prime G.rank (label G e) (leading G e) b d (lift (unit_at G.rank a d j)) i;
-      } in
-      ap (λ p. M p n (coordinate_of x) (leading_of x)) table.prime
-      ∙ ap (λ r. M G.prime r (coordinate_of x) (leading_of x)) rank
-      ∙ ap (λ c. M G.prime G.rank c (leading_of x)) table.coordinates
-      ∙ ap (M G.prime G.rank (label G e)) table.leading
-      ∙ ap (N from into) (extension_images G.rank from (lift_by G.rank from into lifts) (F.lift e) d same)
-      ∙ ap (λ a. N a into (extension G.rank a (F.lift e) d)) below
-      ∙ ap (λ b. N (F.degrees (lower G e)) b (extension G.rank (F.degrees (lower G e)) (F.lift e) d)) above
+  where
+    pub lower_map_is : (from into : List ℕ) (lifts : List (List Entry)) → from ≡ F.degrees (lower G e) →
+        into ≡ F.degrees (upper G e) → ((g : ℕ) → g < length from → lift_by G.rank from into lifts g ≡ F.lift e g)
+        → lower_map (prime_of (label_of t)) n (coordinate_of (label_of t)) (leading_of (label_of t)) from into lifts d
+        ≡ lower_matrix G F d e
+    lower_map_is from into lifts below above same =
+        let x = label_of t in
+        let M : ℕ → ℕ → (ℕ → ℕ) → ℕ → Matrix = λ p r c l. lower_map p r c l from into lifts d in
+        let N : List ℕ → List ℕ → (Element → Element) → Matrix =
+        λ a b lift. record {
+          rows = stalk_count (G.rank - 1) b d;
+          cols = stalk_count G.rank a d;
+          entry = λ i j. edge_number G.prime G.rank (label G e) (leading G e) b d (lift (unit_at G.rank a d j)) i;
+        } in
+        ap (λ p. M p n (coordinate_of x) (leading_of x)) table.prime
+        ∙ ap (λ r. M G.prime r (coordinate_of x) (leading_of x)) rank
+        ∙ ap (λ c. M G.prime G.rank c (leading_of x)) table.coordinates
+        ∙ ap (M G.prime G.rank (label G e)) table.leading
+        ∙ ap (N from into) (extension_images G.rank from (lift_by G.rank from into lifts) (F.lift e) d same)
+        ∙ ap (λ a. N a into (extension G.rank a (F.lift e) d)) below
+        ∙ ap (λ b. N (F.degrees (lower G e)) b (extension G.rank (F.degrees (lower G e)) (F.lift e) d)) above
 
 -- the lifts of one edge among those of all
 module _ (lifts own : List (List Entry)) (start n : ℕ) (is : own ≡ slice_range lifts start (start + n)) where
@@ -76,7 +76,7 @@ module _ (lifts own : List (List Entry)) (start n : ℕ) (is : own ≡ slice_ran
   own_read g v below =
       let many : (start + n) - start ≡ n = omega arith in
       ap (λ xs. get_or xs g v) is ∙ ap (λ k. get_or (take k (drop start lifts)) g v) many
-          ∙ get_or-take n (drop start lifts) g v below ∙ get_or-drop start lifts g v
+      ∙ get_or-take n (drop start lifts) g v below ∙ get_or-drop start lifts g v
 
 -- maps in the order of their places
 pub record MapsBefore (M : ℕ → Matrix) (n : ℕ) (ts : List EntryTable) : Type 0 where
@@ -94,11 +94,11 @@ maps_more M n ts t h new = record {
     | inl last ↦
         let at : get_or (ts ++ t ∷ []) k d ≡ t = get_or_push ts t d k (omega (arith, h.counted, last)) in
         subst (λ r. SameMatrix (matrix_of_entries r) (M k)) (sym at)
-            (subst (λ z. SameMatrix (matrix_of_entries t) (M z)) (sym last) new)
+        (subst (λ z. SameMatrix (matrix_of_entries t) (M z)) (sym last) new)
     | inr other ↦
         let earlier : k < n = omega (arith, below, other) in
         let at : get_or (ts ++ t ∷ []) k d ≡ get_or ts k d =
-            get_or_append_left ts (t ∷ []) d k (omega (arith, h.counted, earlier)) in
+        get_or_append_left ts (t ∷ []) d k (omega (arith, h.counted, earlier)) in
         subst (λ r. SameMatrix (matrix_of_entries r) (M k)) (sym at) (h.each k d earlier)
   ];
 }
@@ -113,7 +113,7 @@ module _ (from D : ℕ) (N : ℕ → ℕ → Matrix) where
       let below : d < D + 1 = omega (arith, small) in
       let back : from + (e - from) ≡ e = omega (arith, past) in
       ap₂ N (mod-mul-add (e - from) (D + 1) d below) (ap (λ z. from + z) (div-mul-add (e - from) (D + 1) d below)
-          ∙ back)
+      ∙ back)
 
   pub next_edge : (e : ℕ) → from ≤ e → (e - from) * (D + 1) + (D + 1) ≡ (e + 1 - from) * (D + 1)
   next_edge e past = let one : e + 1 - from ≡ (e - from) + 1 = omega (arith, past) in rw one (omega arith)
@@ -130,11 +130,14 @@ module _ (from D : ℕ) (N : ℕ → ℕ → Matrix) where
             let place : map_place s.graph s.degree e d ≡ (e - from) * (D + 1) + d =
             ap₂ (λ a b. (e - a) * (b + 1) + d) (ap (first_edge s.graph) starts ∙ first) bound in
             let within : (e - from) * (D + 1) + d < (to - from) * (D + 1) =
-            omega (arith, mul-add-lt (e - from) (D + 1) d (to - from) (omega (arith, has.0, has.1))
-                (omega (arith, small, bound))) in
+            omega (
+              arith,
+              mul-add-lt (e - from) (D + 1) d (to - from) (omega (arith, has.0, has.1))
+                  (omega (arith, small, bound)),
+            ) in
             subst (λ k. SameMatrix (matrix_of_entries (get_or ts k t)) (N d e)) (sym place)
             (subst (SameMatrix (matrix_of_entries (get_or ts ((e - from) * (D + 1) + d) t)))
-                (by_edge_at e d has.0 (omega (arith, small, bound))) (h.each ((e - from) * (D + 1) + d) t within));
+            (by_edge_at e d has.0 (omega (arith, small, bound))) (h.each ((e - from) * (D + 1) + d) t within));
       }
 
 -- the lower maps of each edge and degree, in this order
@@ -164,8 +167,8 @@ module _ {F : Type 0} (s : SheafState F) (from : ℕ) where
       let next : (before_edge e + d) + 1 ≡ before_edge e + (d + 1) = omega arith in
       subst (λ n. LowerBefore n (ls ++ l ∷ [])) next
       (maps_more lower_by_edge (before_edge e + d) ls l h
-          (subst (λ (a : Matrix). SameMatrix (matrix_of_entries l) a)
-          (sym (by_edge_at from s.degree (lower_matrix s.graph (sheaf_of s)) e d past small)) lower_is))
+      (subst (λ (a : Matrix). SameMatrix (matrix_of_entries l) a)
+      (sym (by_edge_at from s.degree (lower_matrix s.graph (sheaf_of s)) e d past small)) lower_is))
 
   pub up_ends : (e d : ℕ) (ls : List EntryTable) → from ≤ e → d ≡ s.degree + 1 → LowerBefore (before_edge e + d) ls →
       LowerBefore (before_edge (e + 1)) ls
@@ -207,15 +210,15 @@ module _ {F : Type 0} (s : SheafState F) (left : length s.stalks < vertex_count 
       lift_is : (g : ℕ) → g < length degrees → lift_by s.graph.rank degrees into own g ≡ then_sheaf.lift e g
       lift_is g inside =
           let element : List ℕ → Stalk → ℕ → Element =
-              λ a b i. element_of s.graph.rank a (slice_index b.degrees g) (number_at (get_or b.lifts i [])) in
+          λ a b i. element_of s.graph.rank a (slice_index b.degrees g) (number_at (get_or b.lifts i [])) in
           let place : k * n + g ≡ lift_place s.graph (λ y. degrees) e g =
           ap₂ (λ a b. a * b + g) (at.place ∙ ap (λ y. e - first_edge s.graph y) (sym starts)) many in
           ap (λ v. element_of s.graph.rank into (slice_index degrees g) (number_at v))
-              (own_read lifts own (k * n) n own_is g [] (omega (arith, inside, many)))
+          (own_read lifts own (k * n) n own_is g [] (omega (arith, inside, many)))
           ∙ ap (element into came) place
           ∙ ap (λ a. element a came (lift_place s.graph (λ y. degrees) e g)) degrees_above
           ∙ ap (λ b. element (stalk_of then_state (upper s.graph e)).degrees b
-              ((e - first_edge s.graph (lower s.graph e)) * length b.degrees + g)) (sym stalk_below)
+          ((e - first_edge s.graph (lower s.graph e)) * length b.degrees + g)) (sym stalk_below)
 
       module _ (d r : ℕ) (t : NormalTable) (table : IsTableOf s.graph s.degree e t) (rank : r ≡ s.graph.rank)
           (a : Matrix) where
@@ -229,18 +232,18 @@ module _ {F : Type 0} (s : SheafState F) (left : length s.stalks < vertex_count 
       pub own_fit : (r : ℕ) → r ≡ s.graph.rank → IsStalk s x degrees lifts → LiftsFit r degrees into own
       own_fit r rank stalk g inside =
           let within : length own ≤ n =
-              omega (arith, ap length own_is, length-take (k * n + n - k * n) (drop (k * n) lifts)) in
+          omega (arith, ap length own_is, length-take (k * n + n - k * n) (drop (k * n) lifts)) in
           let generator : g < length degrees = omega (arith, inside, within, many) in
           let read : get_or lifts (k * length degrees + g) [] ≡ get_or own g [] =
-              sym (own_read lifts own (k * n) n own_is g [] (omega (arith, generator, many))
-              ∙ ap (λ z. get_or lifts (k * z + g) []) many) in
+          sym (own_read lifts own (k * n) n own_is g [] (omega (arith, generator, many))
+          ∙ ap (λ z. get_or lifts (k * z + g) []) many) in
           let room : stalk_count s.graph.rank (stalk_of s (upper s.graph e)).degrees (slice_index degrees g)
-              ≡ stalk_count r into (slice_index degrees g) =
+          ≡ stalk_count r into (slice_index degrees g) =
           ap₂ (λ a b. stalk_count a b (slice_index degrees g)) (sym rank) (sym into_is) in
           subst (FitsBelow (get_or own g [])) room
-              (subst (λ v. FitsBelow v
-              (stalk_count s.graph.rank (stalk_of s (upper s.graph e)).degrees (slice_index degrees g))) read
-              (lift_fits s x degrees lifts stalk e k g at generator))
+          (subst (λ v. FitsBelow v
+          (stalk_count s.graph.rank (stalk_of s (upper s.graph e)).degrees (slice_index degrees g))) read
+          (lift_fits s x degrees lifts stalk e k g at generator))
 
 -- a table of the stalk that comes
 pub new_table : {F : Type 0} {s : SheafState F} (left : length s.stalks < vertex_count s.graph) (is : IsGraph s.graph)

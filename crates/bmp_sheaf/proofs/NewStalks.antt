@@ -34,7 +34,7 @@ module _ {F : Type 0} (s : SheafState F) (t : Stalk) (left : length s.stalks < v
     above_kept : (y : ℕ) → next_vertex s ≤ y → SameAbove s s.field (s.stalks ++ t ∷ []) is y
     above_kept y at_least =
         upper_ends s s.field (s.stalks ++ t ∷ []) is y
-            (λ z past below. stalk_kept z (omega (arith, past, at_least)) below)
+        (λ z past below. stalk_kept z (omega (arith, past, at_least)) below)
 
     pub stalk_still : (y : ℕ) → next_vertex s ≤ y → (degrees : List ℕ) (lifts : List (List Entry)) →
         IsStalk s y degrees lifts → IsStalk now y degrees lifts
@@ -59,10 +59,10 @@ module _ {F : Type 0} (s : SheafState F) (t : Stalk) (left : length s.stalks < v
             let v = get_or ts (vertex_count s.graph - 1 - y) no_table in
             let at : get_or (ts ++ u ∷ []) (vertex_count s.graph - 1 - y) no_table ≡ v =
             get_or_append_left ts (u ∷ []) no_table (vertex_count s.graph - 1 - y)
-                (omega (arith, above, there.0, h.as_many, left)) in
+            (omega (arith, above, there.0, h.as_many, left)) in
             subst (IsStalkTable now y) (sym at)
             (table_same s s.field (s.stalks ++ t ∷ []) is y (above_kept y (omega (arith, above)))
-                (stalk_kept y above there.0) v (h.each y old))
+            (stalk_kept y above there.0) v (h.each y old))
       ];
     }
 
@@ -75,17 +75,17 @@ module _ {F : Type 0} (s o : SheafState F) (left : length s.stalks < vertex_coun
     (graph : o.graph ≡ s.graph) (t : StalkTable) (h : IsStalkTable o (next_vertex s) t) where
   pub table_taken : o.degree ≡ s.degree
       → ((e : ℕ) → e < edge_count s.graph → lower s.graph e ≡ next_vertex s →
-          stalk_of o (upper s.graph e) ≡ stalk_of s (upper s.graph e))
+      stalk_of o (upper s.graph e) ≡ stalk_of s (upper s.graph e))
       → IsStalkTable (with_stalk s (stalk_in t)) (next_vertex s) t
   table_taken degree above =
       let x = next_vertex s in
       let over : Graph → ℕ → SheafState F =
-          λ G D. record { graph = G; field = o.field; degree = D; stalks = o.stalks } in
+      λ G D. record { graph = G; field = o.field; degree = D; stalks = o.stalks } in
       let same : (z : ℕ) → stalk_of o z ≡ stalk_of (over s.graph s.degree) z =
       λ z. ap (λ G. get_or o.stalks (vertex_count G - 1 - z) no_stalk) graph in
       let ends : SameAbove (over s.graph s.degree) s.field (s.stalks ++ stalk_in t ∷ []) is x =
       λ e below starts. stalk_kept s (stalk_in t) left (upper s.graph e)
-          (omega (arith, edge_rises s.graph is e below, starts)) (is.ends e below).1
+      (omega (arith, edge_rises s.graph is e below, starts)) (is.ends e below).1
       ∙ sym (above e below starts) ∙ same (upper s.graph e) in
       table_same (over s.graph s.degree) s.field (s.stalks ++ stalk_in t ∷ []) is x ends
       (stalk_new s (stalk_in t) left x refl ∙ sym (stalk_is h) ∙ same x) t
@@ -128,11 +128,16 @@ module _ {F : Type 0} {p : ℕ} {G : Graph} {f : F} {D : ℕ} {labels : LabelTab
       let s = state_of G f D ts in
       let room : length s.stalks < vertex_count G = omega (arith, left, h.stalks.as_many) in
       let pushed : with_stalk s (stalk_in u) ≡ state_of G f D (ts ++ u ∷ []) =
-          ap (λ ys. record { graph = G; field = f; degree = D; stalks = ys }) (sym (map_push stalk_in ts u)) in
+      ap (λ ys. record { graph = G; field = f; degree = D; stalks = ys }) (sym (map_push stalk_in ts u)) in
       record {
         prime = h.prime;
-        state = record { over = h.state.over; some = h.state.some; wide = h.state.wide; few = h.state.few;
-            bound = h.state.bound };
+        state = record {
+          over = h.state.over;
+          some = h.state.some;
+          wide = h.state.wide;
+          few = h.state.few;
+          bound = h.state.bound;
+        };
         normal_forms = h.normal_forms;
         upper_maps = h.upper_maps;
         stalks = subst (λ z. AreTables z (ts ++ u ∷ [])) pushed

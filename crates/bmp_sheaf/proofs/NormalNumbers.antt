@@ -24,7 +24,7 @@ module _ (l s : ℕ) (m : List ℕ) where
   pure_place_below (suc r) below wide is pure =
       let one_fewer : suc r - 1 ≡ r = omega arith in
       rw one_fewer (place_below 5 r s (remove m l) (omega arith)
-          (removed_monomial 5 r s l m below (omega arith) is pure))
+      (removed_monomial 5 r s l m below (omega arith) is pure))
 
   pub pure-again : (r : ℕ) → l < r → r ≤ 6 → IsMonomial 6 r s m → slice_index m l ≡ 0 →
       insert l (exponents 5 (r - 1) s (place (r - 1) (remove m l))) ≡ m
@@ -34,7 +34,7 @@ module _ (l s : ℕ) (m : List ℕ) where
       let long : length m ≡ 6 = is.long in
       rw one_fewer
       (ap (insert l) (exponents-place 5 r s (remove m l) (omega arith)
-          (removed_monomial 5 r s l m below (omega arith) is pure) ∙ removed_same m l)
+      (removed_monomial 5 r s l m below (omega arith) is pure) ∙ removed_same m l)
       ∙ insert_remove l m (omega arith) pure)
 
 module _ (p r l : ℕ) (coords : List ℕ) (two : 2 ≤ p) (inverses : HasInverses p) (leads : IsLeading p r l coords)

@@ -24,7 +24,7 @@ pub product-zero : (r s : ℕ) (a b : Form) (m : List ℕ) → ((n : List ℕ) �
 unfolding product
 product-zero r s a b m none =
     sum_below_same (λ i. a (exponents 6 r s i) * shift (exponents 6 r s i) b m) (λ i. 0) (count r s)
-        (λ i below. nothing i (cases_Bool (contains m (exponents 6 r s i))))
+    (λ i below. nothing i (cases_Bool (contains m (exponents 6 r s i))))
     ∙ sum_below-zeros (count r s)
   where
     nothing : (i : ℕ) → (contains m (exponents 6 r s i) ≡ true) ⊎ (contains m (exponents 6 r s i) ≡ false) →

@@ -16,8 +16,11 @@ pub record IsRowBelow (rows i : ℕ) (columns : List ℕ) (n : ℕ) (row : List 
 
 module _ (rows i : ℕ) (columns : List ℕ) where
   pub row_none : IsRowBelow rows i columns 0 []
-  row_none = record { fits = λ k d below. absurd (omega arith); numbers = λ j below. absurd (omega arith);
-      values = λ p small k d below. absurd (omega arith) }
+  row_none = record {
+    fits = λ k d below. absurd (omega arith);
+    numbers = λ j below. absurd (omega arith);
+    values = λ p small k d below. absurd (omega arith);
+  }
 
   -- a number that is 0 has no entry
   pub row_passed : (n : ℕ) (row : List Entry) → IsRowBelow rows i columns n row →

@@ -72,11 +72,11 @@ module _ {F : Type 0} (s : SheafState F) (f : F) (stalks : List Stalk) (is : IsG
           AgreeOnEdge s.graph (sheaf_of s) (sheaf_of other) e
       agree e below starts =
           let here : stalk_of other (lower s.graph e) ≡ stalk_of s (lower s.graph e) =
-              subst (λ z. stalk_of other z ≡ stalk_of s z) (sym starts) own in
+          subst (λ z. stalk_of other z ≡ stalk_of s z) (sym starts) own in
           written_agree s.graph (λ z. (stalk_of s z).degrees) (λ z. (stalk_of other z).degrees)
-              (λ z. (stalk_of s z).lifts) (λ z. (stalk_of other z).lifts) e
+          (λ z. (stalk_of s z).lifts) (λ z. (stalk_of other z).lifts) e
           (sym (ap (λ (t : Stalk). t.degrees) here)) (sym (ap (λ (t : Stalk). t.degrees) (above e below starts)))
-              (sym (ap (λ (t : Stalk). t.lifts) here))
+          (sym (ap (λ (t : Stalk). t.lifts) here))
 
       pub table_same : (u : StalkTable) → IsStalkTable s y u → IsStalkTable other y u
       table_same u h = record {
@@ -90,8 +90,8 @@ module _ {F : Type 0} (s : SheafState F) (f : F) (stalks : List Stalk) (is : IsG
           counted = h.lower_maps.counted;
           each = λ e d r is_edge starts small.
               subst (SameMatrix (matrix_of_entries (get_or u.lower _ r)))
-                  (lower_matrix_agrees s.graph (sheaf_of s) (sheaf_of other) d e (agree e is_edge starts))
-                  (h.lower_maps.each e d r is_edge starts small);
+              (lower_matrix_agrees s.graph (sheaf_of s) (sheaf_of other) d e (agree e is_edge starts))
+              (h.lower_maps.each e d r is_edge starts small);
         };
         uppers = uppers_same u.uppers h.uppers;
       }

@@ -24,9 +24,15 @@ module _ {F : Type 0} (s : SheafState F) (d : ℕ) where
       let second : boundary ≤ new = omega arith in
       record {
         room = λ y is before. elim (cases_eq y x) [
-          | inl same ↦ (omega (arith, first, stalk_is,
-              ap (λ z. stalk_count s.graph.rank (stalk_of s z).degrees d) same),
-              omega (arith, second, boundary_is, ap (λ z. boundary_count s.graph (sheaf_of s) z d) same))
+          | inl same ↦ (
+            omega (
+              arith,
+              first,
+              stalk_is,
+              ap (λ z. stalk_count s.graph.rank (stalk_of s z).degrees d) same,
+            ),
+            omega (arith, second, boundary_is, ap (λ z. boundary_count s.graph (sheaf_of s) z d) same),
+          )
           | inr other ↦ let room = h.room y is (omega (arith, before, other)) in
               (omega (arith, room.0, mid_is, new_is), omega (arith, room.1, mid_is, new_is))
         ];

@@ -25,7 +25,7 @@ module _ (r : ℕ) (degrees : List ℕ) (d : ℕ) where
   stalk_number_at u g s m wide has is =
       let whole : d - slice_index degrees g ≡ s = omega (arith, has.1) in
       joined_at stalk_size (λ h i. u h (exponents 6 r (d - slice_index degrees h) i)) (length degrees) g
-          (place r m) has.0
+      (place r m) has.0
       (inside_size r d degrees g s (place r m) has (place_below 6 r s m wide is))
       ∙ ap (λ k. u g (exponents 6 r k (place r m))) whole
       ∙ ap (u g) (exponents-place 6 r s m wide is)
@@ -50,6 +50,6 @@ module _ (r : ℕ) (degrees : List ℕ) (d : ℕ) where
       let at : IsStalkPlace r d degrees k = stalk_place_of r d degrees wide k below in
       let number : (w : Element) → stalk_number w k ≡ w at.generator at.monomial =
       λ w. ap (stalk_number w) (sym at.is)
-          ∙ stalk_number_at w at.generator at.degree at.monomial wide at.has at.is_monomial in
+      ∙ stalk_number_at w at.generator at.degree at.monomial wide at.has at.is_monomial in
       ap (λ z. z % p) (number u) ∙ same at.generator at.degree at.has at.monomial at.is_monomial
-          ∙ ap (λ z. z % p) (sym (number v))
+      ∙ ap (λ z. z % p) (sym (number v))

@@ -33,12 +33,12 @@ pub stalk_place_below : (w r d g s : ℕ) (degrees : List ℕ) (m : List ℕ) �
 stalk_place_below w r d g s degrees m wide has is =
     let here : place r m < count r s = place_below w r s m wide is in
     let size : component_count r d (slice_index degrees g) ≡ count r s =
-        component_is_count r s d (slice_index degrees g) has.1 in
+    component_is_count r s d (slice_index degrees g) has.1 in
     let next : stalk_start r degrees d (suc g) ≡ stalk_start r degrees d g + component_count r d
-        (slice_index degrees g) = sum_below-suc (λ h. component_count r d (slice_index degrees h)) g in
+    (slice_index degrees g) = sum_below-suc (λ h. component_count r d (slice_index degrees h)) g in
     let rises : stalk_start r degrees d (suc g) ≤ stalk_count r degrees d =
-        sum_below_rises (λ h. component_count r d (slice_index degrees h)) (suc g) (length degrees)
-        (omega (arith, has.0)) in
+    sum_below_rises (λ h. component_count r d (slice_index degrees h)) (suc g) (length degrees)
+    (omega (arith, has.0)) in
     omega (arith, here, size, next, rises)
 
 -- the same on an edge, for monomials without the variable l
@@ -48,4 +48,4 @@ edge_place_below zero l d g s degrees m below wide has is pure = absurd (omega a
 edge_place_below (suc r) l d g s degrees m below wide has is pure =
     let one_fewer : suc r - 1 ≡ r = omega arith in
     rw one_fewer (stalk_place_below 5 r d g s degrees (remove m l) (omega arith) has
-        (removed_monomial 5 r s l m below (omega arith) is pure))
+    (removed_monomial 5 r s l m below (omega arith) is pure))

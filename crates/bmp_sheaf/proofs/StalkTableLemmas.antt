@@ -38,7 +38,7 @@ module _ {F : Type 0} (s : SheafState F) (x : ℕ) (degrees : List ℕ) (lifts :
       let at_generator : (k * length degrees + g) % length degrees ≡ g = mod-mul-add k (length degrees) g generator in
       let first_is : first_edge s.graph x + k ≡ e = omega (arith, at.first, at.place) in
       let room : ℕ → ℕ → ℕ =
-          λ f h. stalk_count s.graph.rank (stalk_of s (upper s.graph f)).degrees (slice_index degrees h) in
+      λ f h. stalk_count s.graph.rank (stalk_of s (upper s.graph f)).degrees (slice_index degrees h) in
       ap₂ room (ap (λ z. first_edge s.graph x + z) at_edge ∙ first_is) at_generator
 
   pub lift_fits : FitsBelow (slice_index_or lifts (k * length degrees + g) [])
@@ -78,38 +78,39 @@ module _ {F : Type 0} (s : SheafState F) (x : ℕ) (t : StalkTable) (is : IsStal
     here = subst (λ y. IsUpPlace s.graph y e k) (sym starts) at
 
     module _ (n : ℕ) (v : List Entry) (many : n ≡ length t.degrees) (read : v ≡ slice_index_or t.lifts (k * n + g) v)
-        where
-      is_generator : g < length t.degrees
-      is_generator = omega (arith, generator, ap length degrees_are)
+      where
+        is_generator : g < length t.degrees
+        is_generator = omega (arith, generator, ap length degrees_are)
 
-      inside : k * length t.degrees + g < length t.lifts
-      inside = lift_inside s x t.degrees t.lifts is.stalk e k g here is_generator
+        inside : k * length t.degrees + g < length t.lifts
+        inside = lift_inside s x t.degrees t.lifts is.stalk e k g here is_generator
 
-      v_is : slice_index_or t.lifts (k * length t.degrees + g) [] ≡ v
-      v_is = sym (get_or_read t.lifts (k * length t.degrees + g) v inside
-          (read ∙ ap (λ z. slice_index_or t.lifts (k * z + g) v) many) [])
+        v_is : slice_index_or t.lifts (k * length t.degrees + g) [] ≡ v
+        v_is = sym (get_or_read t.lifts (k * length t.degrees + g) v inside
+            (read ∙ ap (λ z. slice_index_or t.lifts (k * z + g) v) many) [])
 
-      pub lift_kept : slice_index_or (stalk_of s (lower s.graph e)).lifts
-          (lift_place s.graph (λ y. (stalk_of s y).degrees) e g) [] ≡ v
-      lift_kept =
-          let lifts_are : t.lifts ≡ (stalk_of s (lower s.graph e)).lifts =
-              is.lifts ∙ ap (λ y. (stalk_of s y).lifts) starts in
-          ap₂ (λ (vs : List (List Entry)) i. slice_index_or vs i []) (sym lifts_are)
-              (ap₂ (λ a b. a * b + g) (sym at.place) (ap length (sym degrees_are))) ∙ v_is
+        pub lift_kept : slice_index_or (stalk_of s (lower s.graph e)).lifts
+            (lift_place s.graph (λ y. (stalk_of s y).degrees) e g) [] ≡ v
+        lift_kept =
+            let lifts_are : t.lifts ≡ (stalk_of s (lower s.graph e)).lifts =
+            is.lifts ∙ ap (λ y. (stalk_of s y).lifts) starts in
+            ap₂ (λ (vs : List (List Entry)) i. slice_index_or vs i []) (sym lifts_are)
+            (ap₂ (λ a b. a * b + g) (sym at.place) (ap length (sym degrees_are))) ∙ v_is
 
-      pub lift_kept_values : ValuesBelow v s.graph.prime
-      lift_kept_values = subst (λ w. ValuesBelow w s.graph.prime) v_is (is.values (k * length t.degrees + g) [] inside)
+        pub lift_kept_values : ValuesBelow v s.graph.prime
+        lift_kept_values =
+            subst (λ w. ValuesBelow w s.graph.prime) v_is (is.values (k * length t.degrees + g) [] inside)
 
-      pub lift_kept_fits :
-          FitsBelow v (stalk_count s.graph.rank (stalk_of s (upper s.graph e)).degrees
-          (slice_index (stalk_of s (lower s.graph e)).degrees g))
-      lift_kept_fits =
-          subst (λ w. FitsBelow w
-              (stalk_count s.graph.rank (stalk_of s (upper s.graph e)).degrees
-              (slice_index (stalk_of s (lower s.graph e)).degrees g))) v_is
-          (subst (λ y. FitsBelow (slice_index_or t.lifts (k * length t.degrees + g) [])
-              (stalk_count s.graph.rank (stalk_of s (upper s.graph e)).degrees (slice_index y g))) degrees_are
-          (lift_fits s x t.degrees t.lifts is.stalk e k g here is_generator))
+        pub lift_kept_fits :
+            FitsBelow v (stalk_count s.graph.rank (stalk_of s (upper s.graph e)).degrees
+            (slice_index (stalk_of s (lower s.graph e)).degrees g))
+        lift_kept_fits =
+            subst (λ w. FitsBelow w
+            (stalk_count s.graph.rank (stalk_of s (upper s.graph e)).degrees
+            (slice_index (stalk_of s (lower s.graph e)).degrees g))) v_is
+            (subst (λ y. FitsBelow (slice_index_or t.lifts (k * length t.degrees + g) [])
+            (stalk_count s.graph.rank (stalk_of s (upper s.graph e)).degrees (slice_index y g))) degrees_are
+            (lift_fits s x t.degrees t.lifts is.stalk e k g here is_generator))
 
 -- the table of a map from an upper end, as it is read
 module _ {F Z : Type 0} {s : SheafState F} {x : ℕ} (us : List (Arc UpperTable Z)) (h : AreUppers s x (map arc_value us))
@@ -121,7 +122,7 @@ module _ {F Z : Type 0} {s : SheafState F} {x : ℕ} (us : List (Arc UpperTable 
   upper_read u read =
       let own : get_or (map arc_value us) (e - first_edge s.graph x) (arc_value u) ≡ arc_value u =
       ap (λ z. get_or (map arc_value us) z (arc_value u)) (sym up.at.place)
-          ∙ sym (value_read us k u upper_inside read (arc_value u)) in
+      ∙ sym (value_read us k u upper_inside read (arc_value u)) in
       subst (IsUpperOf s e) own (h.each e (arc_value u) up.is_edge up.starts)
 
 -- the rows in a table of upper maps
@@ -132,7 +133,7 @@ module _ {F : Type 0} (s : SheafState F) (e : ℕ) (below : e < edge_count s.gra
   upper_kept =
       subst (SameMatrix (matrix_of_entries rows)) (upper_map_is s e d u.quotient module_is)
       (subst (λ r. SameMatrix (matrix_of_entries r) (upper_map_of u.quotient d)) (sym read)
-          (is.each d rows (omega (arith, small))))
+      (is.each d rows (omega (arith, small))))
 
   pub upper_kept_below : IsOverField s.graph → NumbersBelow s.graph.prime (matrix_of_entries rows)
   upper_kept_below over =

@@ -25,18 +25,18 @@ module _ (p r : ℕ) (degrees : List ℕ) (d : ℕ) (wide : r ≤ 6) where
       let least : slice_index degrees g ≤ d = omega (arith, has.1) in
       let whole : d - slice_index degrees g ≡ s = omega (arith, has.1) in
       ap (λ z. z % p) (sum_below_only (part u g m) (length degrees) g has.0
-          (λ i below other. elim (cases_Bool (leb (slice_index degrees i) d)) [
+      (λ i below other. elim (cases_Bool (leb (slice_index degrees i) d)) [
         | inl held ↦
             cond-true {A = ℕ} (leb (slice_index degrees i) d)
-                (product 6 r (d - slice_index degrees i) (u i) (unit_element i g) m) 0 held
+            (product 6 r (d - slice_index degrees i) (u i) (unit_element i g) m) 0 held
             ∙ product-zero r (d - slice_index degrees i) (u i) (unit_element i g) m
-                (λ n. cond-false {A = ℕ} (eqb g i) 1 0 (ne_eqb g i (λ e. other (sym e))))
+            (λ n. cond-false {A = ℕ} (eqb g i) 1 0 (ne_eqb g i (λ e. other (sym e))))
         | inr past ↦ cond-false {A = ℕ} (leb (slice_index degrees i) d)
             (product 6 r (d - slice_index degrees i) (u i) (unit_element i g) m) 0 past
       ])
       ∙ cond-true {A = ℕ} (leb (slice_index degrees g) d)
-          (product 6 r (d - slice_index degrees g) (u g) (unit_element g g) m) 0
-          (le-leb (slice_index degrees g) d least)
+      (product 6 r (d - slice_index degrees g) (u g) (unit_element g g) m) 0
+      (le-leb (slice_index degrees g) d least)
       ∙ ap (λ k. product 6 r k (u g) (unit_element g g) m) whole
       ∙ product-one r s (u g) (unit_element g g) m wide is (λ n. cond-true {A = ℕ} (eqb g g) 1 0 (eq-eqb g g refl)))
 
@@ -56,9 +56,9 @@ module _ (p r : ℕ) (degrees : List ℕ) (d : ℕ) (wide : r ≤ 6) where
       unfolding product
       holds_of_component g k has =
           holds_of_sum (λ i h m. u g (exponents 6 r k i) * monomial_times (exponents 6 r k i) (unit_element g) h m)
-              (count r k)
+          (count r k)
           (λ i below. let stands : StandsAt 6 r k i (exponents 6 r k i) = exponents_stand 6 r k i wide below in
-              terms g k (exponents 6 r k i) has stands.monomial)
+          terms g k (exponents 6 r k i) has stands.monomial)
 
       holds_of_part : (g : ℕ) → g < length degrees → P (λ h m. part u h m g)
       holds_of_part g below = elim (cases_Bool (leb (slice_index degrees g) d)) [
@@ -66,15 +66,15 @@ module _ (p r : ℕ) (degrees : List ℕ) (d : ℕ) (wide : r ≤ 6) where
             let within : slice_index degrees g ≤ d = leb-true (slice_index degrees g) d held in
             respects (λ h m. product 6 r (d - slice_index degrees g) (u g) (unit_element g h) m) (λ h m. part u h m g)
             (equal_same p r degrees d (λ h m. product 6 r (d - slice_index degrees g) (u g) (unit_element g h) m)
-                (λ h m. part u h m g)
+            (λ h m. part u h m g)
             (λ h m. sym (cond-true {A = ℕ} (leb (slice_index degrees g) d)
-                (product 6 r (d - slice_index degrees g) (u g) (unit_element g h) m) 0 held)))
+            (product 6 r (d - slice_index degrees g) (u g) (unit_element g h) m) 0 held)))
             (holds_of_component g (d - slice_index degrees g) (below, omega arith))
         | inr past ↦
             respects zero_element (λ h m. part u h m g)
             (equal_same p r degrees d zero_element (λ h m. part u h m g)
-                (λ h m. sym (cond-false {A = ℕ} (leb (slice_index degrees g) d)
-                (product 6 r (d - slice_index degrees g) (u g) (unit_element g h) m) 0 past)))
+            (λ h m. sym (cond-false {A = ℕ} (leb (slice_index degrees g) d)
+            (product 6 r (d - slice_index degrees g) (u g) (unit_element g h) m) 0 past)))
             zero_holds
       ]
 

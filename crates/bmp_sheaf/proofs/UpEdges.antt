@@ -34,9 +34,9 @@ module _ (G : Graph) (x from to : ℕ) (range : IsUpRange G x from to) where
       let starts : ℕ → ℕ = λ e. cond (ltb (lower G e) x) 1 0 in
       let few : from ≤ edge_count G = omega (arith, range.ordered, range.within) in
       sum_until starts from (edge_count G) few
-          (λ e past below. cond-false {A = ℕ} (ltb (lower G e) x) 1 0 (le-ltb (lower G e) x (not_before e past below)))
+      (λ e past below. cond-false {A = ℕ} (ltb (lower G e) x) 1 0 (le-ltb (lower G e) x (not_before e past below)))
       ∙ sum_ones starts from
-          (λ e below. cond-true {A = ℕ} (ltb (lower G e) x) 1 0 (lt-ltb (lower G e) x (range.before e below)))
+      (λ e below. cond-true {A = ℕ} (ltb (lower G e) x) 1 0 (lt-ltb (lower G e) x (range.before e below)))
     where
       not_before : (e : ℕ) → from ≤ e → e < edge_count G → x ≤ lower G e
       not_before e past below = elim (cases_lt e to) [
@@ -79,8 +79,8 @@ module _ (G : Graph) (x from to : ℕ) (range : IsUpRange G x from to) where
       sym (sum_ends one) ∙ ap (sum_below (from_x one)) (sym split) ∙ sum_below_joined (from_x one) from (to - from)
       ∙ ap (λ z. z + sum_below (λ i. from_x one (from + i)) (to - from)) (sum_starts one)
       ∙ ap (λ z. 0 + z)
-          (sum_ones (λ i. from_x one (from + i)) (to - from)
-          (λ i l. terms_inside one (from + i) (omega arith) (omega (arith, l))))
+      (sum_ones (λ i. from_x one (from + i)) (to - from)
+      (λ i l. terms_inside one (from + i) (omega arith) (omega (arith, l))))
       ∙ omega arith
 
   module _ (F : SheafData) (d : ℕ) where
@@ -102,8 +102,11 @@ module _ (G : Graph) (x from to : ℕ) (range : IsUpRange G x from to) where
       let so_far : k ≤ upper G (from + k) = upper_rises is k (omega arith) in
       elim (is.order (from + k) (from + suc k) here (omega (arith, range.within))) [
         | inl lower_end ↦ absurd
-            (omega (arith, range.inside (from + k) (omega arith) (omega arith),
-            range.inside (from + suc k) (omega arith) below))
+            (omega (
+              arith,
+              range.inside (from + k) (omega arith) (omega arith),
+              range.inside (from + suc k) (omega arith) below,
+            ))
         | inr upper_end ↦ omega arith
       ]
 
@@ -114,7 +117,7 @@ module _ (G : Graph) (x from to : ℕ) (range : IsUpRange G x from to) where
         let last : from + (to - from - 1) < to = omega (arith, range.ordered) in
         let rises : to - from - 1 ≤ upper G (from + (to - from - 1)) = upper_rises is (to - from - 1) last in
         let vertex : upper G (from + (to - from - 1)) < vertex_count G =
-            (is.ends (from + (to - from - 1)) (omega (arith, range.within))).1 in
+        (is.ends (from + (to - from - 1)) (omega (arith, range.within))).1 in
         omega arith
   ]
 
@@ -122,8 +125,11 @@ module _ (G : Graph) (x from to : ℕ) (range : IsUpRange G x from to) where
   pub up_place : (e : ℕ) → e < edge_count G → lower G e ≡ x → IsUpPlace G x e (e - from)
   up_place e below starts =
       let has = IsUpRange-has G x from to e range below starts in
-      record { first = omega (arith, has.0, first_edge_is); place = ap (λ z. e - z) (sym first_edge_is);
-          within = omega (arith, has.0, has.1, up_count_is) }
+      record {
+        first = omega (arith, has.0, first_edge_is);
+        place = ap (λ z. e - z) (sym first_edge_is);
+        within = omega (arith, has.0, has.1, up_count_is);
+      }
 
 pub up_place_of : (G : Graph) (e y from to : ℕ) → IsUpRange G y from to → y ≡ lower G e → e < edge_count G →
     IsUpPlace G (lower G e) e (e - from)
@@ -159,42 +165,54 @@ module _ (G : Graph) (is : IsGraph G) where
   splits : (x n : ℕ) → n ≤ edge_count G → SplitsAt x n (starts_below x n)
   splits x zero few =
       let none : starts_below x 0 ≡ 0 = sum_below-zero (λ e. cond (ltb (lower G e) x) 1 0) in
-      record { within = omega (arith, none); before = λ e below. absurd (omega (arith, none, below));
-          after = λ e past below. absurd (let nothing : e < 0 = below in omega arith) }
+      record {
+        within = omega (arith, none);
+        before = λ e below. absurd (omega (arith, none, below));
+        after = λ e past below. absurd (let nothing : e < 0 = below in omega arith);
+      }
   splits x (suc n) few =
       let h : SplitsAt x n (starts_below x n) = splits x n (omega arith) in
       let step : starts_below x (suc n) ≡ starts_below x n + cond (ltb (lower G n) x) 1 0 =
-          sum_below-suc (λ e. cond (ltb (lower G e) x) 1 0) n in
+      sum_below-suc (λ e. cond (ltb (lower G e) x) 1 0) n in
       elim (cases_lt (lower G n) x) [
         | inl below ↦
             let one : cond {A = ℕ} (ltb (lower G n) x) 1 0 ≡ 1 =
-                cond-true {A = ℕ} (ltb (lower G n) x) 1 0 (lt-ltb (lower G n) x below) in
+            cond-true {A = ℕ} (ltb (lower G n) x) 1 0 (lt-ltb (lower G n) x below) in
             let all : starts_below x n ≡ n =
             elim (cases_lt (starts_below x n) n) [
               | inl fewer ↦ absurd
-                  (omega (arith, h.after (starts_below x n) (omega arith) fewer,
-                  lower_rises G is (starts_below x n) n (omega (arith, fewer)) (omega (arith, few)), below))
+                  (omega (
+                    arith,
+                    h.after (starts_below x n) (omega arith) fewer,
+                    lower_rises G is (starts_below x n) n (omega (arith, fewer)) (omega (arith, few)),
+                    below,
+                  ))
               | inr most ↦ omega (arith, most, h.within)
             ] in
             let whole : suc n ≡ starts_below x (suc n) = omega (arith, step, one, all) in
             subst (SplitsAt x (suc n)) whole
             (record {
               within = omega arith;
-              before = λ e early. omega (arith, lower_rises G is e n (omega (arith, early)) (omega (arith, few)),
-                  below);
+              before = λ e early. omega (
+                arith,
+                lower_rises G is e n (omega (arith, early)) (omega (arith, few)),
+                below,
+              );
               after = λ e past early. absurd (omega (arith, past, early));
             })
         | inr above ↦
             let zero_more : cond {A = ℕ} (ltb (lower G n) x) 1 0 ≡ 0 =
-                cond-false {A = ℕ} (ltb (lower G n) x) 1 0 (le-ltb (lower G n) x above) in
+            cond-false {A = ℕ} (ltb (lower G n) x) 1 0 (le-ltb (lower G n) x above) in
             let same : starts_below x n ≡ starts_below x (suc n) = omega (arith, step, zero_more) in
             subst (SplitsAt x (suc n)) same
             (record {
               within = omega (arith, h.within);
               before = h.before;
-              after = λ e past early. elim (cases_eq e n)
-                  [ inl last ↦ omega (arith, above, ap (lower G) last) | inr other ↦ h.after e past
-                  (omega (arith, early, other)) ];
+              after = λ e past early. elim (cases_eq e n) [
+                | inl last ↦ omega (arith, above, ap (lower G) last)
+                | inr other ↦ h.after e past
+                    (omega (arith, early, other))
+              ];
             })
       ]
 
@@ -204,27 +222,36 @@ module _ (G : Graph) (is : IsGraph G) where
       let f : ℕ → ℕ = λ e. cond (ltb (lower G e) x) 1 0 in
       let g : ℕ → ℕ = λ e. cond (eqb (lower G e) x) 1 0 in
       sum_below_same (λ e. cond (ltb (lower G e) (x + 1)) 1 0) (λ e. f e + g e) (edge_count G) (λ e below. one_of e)
-          ∙ sum_below-add f g (edge_count G)
+      ∙ sum_below-add f g (edge_count G)
     where
       one_of : (e : ℕ) → cond (ltb (lower G e) (x + 1)) 1 0 ≡ cond (ltb (lower G e) x) 1 0 + cond (eqb (lower G e) x) 1
           0
       one_of e = elim (cases_lt (lower G e) x) [
         | inl below ↦
-            omega (arith, cond-true {A = ℕ} (ltb (lower G e) (x + 1)) 1 0
-                (lt-ltb (lower G e) (x + 1) (omega (arith, below))),
-                cond-true {A = ℕ} (ltb (lower G e) x) 1 0 (lt-ltb (lower G e) x below),
-                cond-false {A = ℕ} (eqb (lower G e) x) 1 0 (ne_eqb (lower G e) x (λ same. omega (arith, same, below))))
+            omega (
+              arith,
+              cond-true {A = ℕ} (ltb (lower G e) (x + 1)) 1 0
+                  (lt-ltb (lower G e) (x + 1) (omega (arith, below))),
+              cond-true {A = ℕ} (ltb (lower G e) x) 1 0 (lt-ltb (lower G e) x below),
+              cond-false {A = ℕ} (eqb (lower G e) x) 1 0 (ne_eqb (lower G e) x (λ same. omega (arith, same, below))),
+            )
         | inr above ↦ elim (cases_eq (lower G e) x) [
           | inl here ↦
-              omega (arith, cond-true {A = ℕ} (ltb (lower G e) (x + 1)) 1 0
-                  (lt-ltb (lower G e) (x + 1) (omega (arith, here))),
-                  cond-false {A = ℕ} (ltb (lower G e) x) 1 0 (le-ltb (lower G e) x above),
-                  cond-true {A = ℕ} (eqb (lower G e) x) 1 0 (eq-eqb (lower G e) x here))
+              omega (
+                arith,
+                cond-true {A = ℕ} (ltb (lower G e) (x + 1)) 1 0
+                    (lt-ltb (lower G e) (x + 1) (omega (arith, here))),
+                cond-false {A = ℕ} (ltb (lower G e) x) 1 0 (le-ltb (lower G e) x above),
+                cond-true {A = ℕ} (eqb (lower G e) x) 1 0 (eq-eqb (lower G e) x here),
+              )
           | inr other ↦
-              omega (arith, cond-false {A = ℕ} (ltb (lower G e) (x + 1)) 1 0
-                  (le-ltb (lower G e) (x + 1) (omega (arith, above, other))),
-                  cond-false {A = ℕ} (ltb (lower G e) x) 1 0 (le-ltb (lower G e) x above),
-                  cond-false {A = ℕ} (eqb (lower G e) x) 1 0 (ne_eqb (lower G e) x other))
+              omega (
+                arith,
+                cond-false {A = ℕ} (ltb (lower G e) (x + 1)) 1 0
+                    (le-ltb (lower G e) (x + 1) (omega (arith, above, other))),
+                cond-false {A = ℕ} (ltb (lower G e) x) 1 0 (le-ltb (lower G e) x above),
+                cond-false {A = ℕ} (eqb (lower G e) x) 1 0 (ne_eqb (lower G e) x other),
+              )
         ]
       ]
 
@@ -232,12 +259,15 @@ module _ (G : Graph) (is : IsGraph G) where
   up_range_of x =
       let lowest : SplitsAt x (edge_count G) (first_edge G x) = splits x (edge_count G) (omega arith) in
       let next : SplitsAt (x + 1) (edge_count G) (first_edge G x + up_count G x) =
-          subst (SplitsAt (x + 1) (edge_count G)) (next_first x) (splits (x + 1) (edge_count G) (omega arith)) in
+      subst (SplitsAt (x + 1) (edge_count G)) (next_first x) (splits (x + 1) (edge_count G) (omega arith)) in
       record {
         ordered = omega arith;
         within = next.within;
         before = lowest.before;
-        inside = λ e past below. omega (arith, next.before e below,
-            lowest.after e past (omega (arith, below, next.within)));
+        inside = λ e past below. omega (
+          arith,
+          next.before e below,
+          lowest.after e past (omega (arith, below, next.within)),
+        );
         after = λ e past below. omega (arith, next.after e past below);
       }

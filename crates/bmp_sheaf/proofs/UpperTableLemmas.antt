@@ -35,7 +35,7 @@ module _ {F : Type 0} (s : SheafState F) where
   pub upper_here : (e : ℕ) (t : NormalTable) (u : UpperTable) → IsTableOf s.graph s.degree e t →
       label_of u.quotient ≡ table_label_of t
       → degrees_of (free_of u.quotient) ≡ (stalk_of s (upper s.graph e)).degrees → IsUpperTable s.degree u →
-          IsUpperOf s e u
+      IsUpperOf s e u
   upper_here e t u table same above rows = record {
     edge = record {
       rank = u.quotient.agree ∙ ap rank_of same ∙ table.rank;
@@ -73,7 +73,7 @@ module _ {F : Type 0} (s : SheafState F) where
     each = λ f v from_on below. elim (cases_eq f e) [
       | inl last ↦
           let at : get_or (us ++ u ∷ []) (f - from) v ≡ u =
-              get_or_push us u v (f - from) (omega (arith, h.counted, last)) in
+          get_or_push us u v (f - from) (omega (arith, h.counted, last)) in
           subst (IsUpperOf s f) (sym at) (subst (λ z. IsUpperOf s z u) (sym last) new)
       | inr other ↦
           let earlier : f < e = omega (arith, below, other) in
@@ -90,7 +90,7 @@ module _ {F : Type 0} (s : SheafState F) where
     each = λ f u below starts.
         let has = IsUpRange-has s.graph x from to f range below starts in
         subst (λ z. IsUpperOf s f (get_or us (f - z) u)) (sym (first_edge_is s.graph x from to range))
-            (h.each f u has.0 (omega (arith, has.1, last)));
+        (h.each f u has.0 (omega (arith, has.1, last)));
   }
 
   -- the matrix of the map to an edge's module is the edge's

@@ -29,5 +29,5 @@ module _ (G : Graph) (F : SheafData) where
     pub numbers :
         (k : ℕ) → k < boundary_count G F x d →
         slice_index new.first k ≡ boundary_number G F x d
-            (boundary_of_element G F d (element_of G.rank (F.degrees x) d u)) k
+        (boundary_of_element G F d (element_of G.rank (F.degrees x) d u)) k
     pub rest : KeepsRest old new

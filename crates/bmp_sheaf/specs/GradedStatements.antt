@@ -35,7 +35,7 @@ abbrev pub CongruentIsSameModulo : Type 0
 CongruentIsSameModulo =
     (p r d : ℕ) (c : ℕ → ℕ) (degrees : List ℕ) (u v : ℕ → ℕ) →
     IsSameModulo p r c degrees d u v ↔
-        CongruentElement p r degrees c d (element_of r degrees d u) (element_of r degrees d v)
+    CongruentElement p r degrees c d (element_of r degrees d u) (element_of r degrees d v)
 
 abbrev pub EdgeNumbersAreProjections : Type 0
 EdgeNumbersAreProjections =

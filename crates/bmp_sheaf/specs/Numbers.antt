@@ -23,7 +23,7 @@ use Rattle.bmp_sheaf.specs.Coordinates.{component_count, stalk_count, element_of
 abbrev pub edge_number : ℕ → ℕ → (ℕ → ℕ) → ℕ → List ℕ → ℕ → Element → ℕ → ℕ
 edge_number p r c l degrees d a =
     joined (λ g. component_count (r - 1) d (slice_index degrees g))
-        (λ g. normal_number p r c l (d - slice_index degrees g) (a g)) (length degrees)
+    (λ g. normal_number p r c l (d - slice_index degrees g) (a g)) (length degrees)
 
 abbrev pub unit_at : ℕ → List ℕ → ℕ → ℕ → Element
 unit_at r degrees d j = element_of r degrees d (unit j)
@@ -44,13 +44,19 @@ module _ (G : Graph) (F : SheafData) where
 
   abbrev pub lower_matrix : ℕ → ℕ → Matrix
   lower_matrix d e =
-      record { rows = edge_module_count G F d e; cols = stalk_count G.rank (F.degrees (lower G e)) d;
-      entry = lower_number d e }
+      record {
+        rows = edge_module_count G F d e;
+        cols = stalk_count G.rank (F.degrees (lower G e)) d;
+        entry = lower_number d e;
+      }
 
   abbrev pub upper_matrix : ℕ → ℕ → Matrix
   upper_matrix d e =
-      record { rows = edge_module_count G F d e; cols = stalk_count G.rank (F.degrees (upper G e)) d;
-      entry = upper_number d e }
+      record {
+        rows = edge_module_count G F d e;
+        cols = stalk_count G.rank (F.degrees (upper G e)) d;
+        entry = upper_number d e;
+      }
 
   abbrev pub boundary_matrix : ℕ → ℕ → Matrix
   boundary_matrix x d = record {

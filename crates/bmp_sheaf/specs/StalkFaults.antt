@@ -26,7 +26,7 @@ WithinBound s degrees i = slice_index degrees i ≤ s.degree
 abbrev pub lift_room : {F : Type 0} → SheafState F → ℕ → List ℕ → ℕ → ℕ
 lift_room s x degrees i =
     stalk_count s.graph.rank (stalk_of s (upper s.graph (first_edge s.graph x + i / length degrees))).degrees
-        (slice_index degrees (i % length degrees))
+    (slice_index degrees (i % length degrees))
 
 abbrev pub LiftFits : {F : Type 0} → SheafState F → ℕ → List ℕ → List (List Entry) → ℕ → Type 0
 LiftFits s x degrees lifts i = FitsBelow (slice_index_or lifts i []) (lift_room s x degrees i)

@@ -35,30 +35,30 @@ EdgeNumbersAreCoordinates =
 abbrev pub EdgeNumbersAreSmall : Type 0
 EdgeNumbersAreSmall =
     (G : Graph) (F : SheafData) (d e : ℕ) (a : Element) (i : ℕ) → IsOverField G → e < edge_count G →
-        on_edge G F d e a i < G.prime
+    on_edge G F d e a i < G.prime
 
 abbrev pub BoundaryNumbersDecide : Type 0
 BoundaryNumbersDecide =
     (G : Graph) (F : SheafData) (x d : ℕ) (b c : Boundary) → IsOverField G →
     SameBoundary G F x d b c ↔
-        ((k : ℕ) → k < boundary_count G F x d → boundary_number G F x d b k ≡ boundary_number G F x d c k)
+    ((k : ℕ) → k < boundary_count G F x d → boundary_number G F x d b k ≡ boundary_number G F x d c k)
 
 -- u is the coordinates of an element of degree d at the lower end, at the upper end, and at x
 abbrev pub LowerMatrixIsOfLift : Type 0
 LowerMatrixIsOfLift =
     (G : Graph) (F : SheafData) (d e : ℕ) (u : ℕ → ℕ) (i : ℕ) → IsOverField G → e < edge_count G →
-        i < edge_module_count G F d e →
+    i < edge_module_count G F d e →
     image (lower_matrix G F d e) u i
-        % G.prime ≡ on_edge G F d e (lift_of G F e d (element_of G.rank (F.degrees (lower G e)) d u)) i
+    % G.prime ≡ on_edge G F d e (lift_of G F e d (element_of G.rank (F.degrees (lower G e)) d u)) i
 
 abbrev pub UpperMatrixIsOfElement : Type 0
 UpperMatrixIsOfElement =
     (G : Graph) (F : SheafData) (d e : ℕ) (u : ℕ → ℕ) (i : ℕ) → IsOverField G → e < edge_count G →
-        i < edge_module_count G F d e →
+    i < edge_module_count G F d e →
     image (upper_matrix G F d e) u i % G.prime ≡ on_edge G F d e (element_of G.rank (F.degrees (upper G e)) d u) i
 
 abbrev pub BoundaryMatrixIsOfBoundary : Type 0
 BoundaryMatrixIsOfBoundary =
     (G : Graph) (F : SheafData) (x d : ℕ) (u : ℕ → ℕ) (k : ℕ) → IsOverField G → k < boundary_count G F x d →
     image (boundary_matrix G F x d) u k
-        % G.prime ≡ boundary_number G F x d (boundary_of_element G F d (element_of G.rank (F.degrees x) d u)) k
+    % G.prime ≡ boundary_number G F x d (boundary_of_element G F d (element_of G.rank (F.degrees x) d u)) k

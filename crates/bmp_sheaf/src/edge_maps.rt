@@ -112,9 +112,9 @@ pub(crate) fn generators<F: Field>(
     requires degrees { All (λ a. a ≤ 6) (degrees_of (free_of quotient.now)) }
     ensures { let x = quotient_label_of quotient.now in let into = degrees_of (free_of quotient.now) in
         IfOk result (λ images. AreImagesOf (⟦<Quotient as GradedModule<F>>⟧.is_element quotient.now f.now)
-            (⟦<Quotient as GradedModule<F>>⟧.degree quotient.now)
+        (⟦<Quotient as GradedModule<F>>⟧.degree quotient.now)
         (⟦<Quotient as GradedModule<F>>⟧.coordinate quotient.now f.now)
-            (edge_number (prime_of x) (label_rank_of x) (coordinate_of x) (leading_of x) into)
+        (edge_number (prime_of x) (label_rank_of x) (coordinate_of x) (leading_of x) into)
         (stalk_count (label_rank_of x - 1) into) (degrees_of (free_of quotient.now)) unit_element images.items) }
 {
     let free = quotient.free();
@@ -144,11 +144,11 @@ pub(crate) fn lifted<F: Field>(
     requires values { All (λ v. ValuesBelow v (F.size f.now)) lifts.now }
     ensures { let x = quotient_label_of quotient.now in let into = degrees_of (free_of quotient.now) in
         IfOk result (λ images. AreImagesOf (⟦<Quotient as GradedModule<F>>⟧.is_element quotient.now f.now)
-            (⟦<Quotient as GradedModule<F>>⟧.degree quotient.now)
+        (⟦<Quotient as GradedModule<F>>⟧.degree quotient.now)
         (⟦<Quotient as GradedModule<F>>⟧.coordinate quotient.now f.now)
-            (edge_number (prime_of x) (label_rank_of x) (coordinate_of x) (leading_of x) into)
+        (edge_number (prime_of x) (label_rank_of x) (coordinate_of x) (leading_of x) into)
         (stalk_count (label_rank_of x - 1) into) (degrees_of from.now)
-            (lift_by (label_rank_of x) (degrees_of from.now) into lifts.now) images.items) }
+        (lift_by (label_rank_of x) (degrees_of from.now) into lifts.now) images.items) }
 {
     let into = quotient.free();
     let projection = Projection::new(quotient);
@@ -183,11 +183,11 @@ pub(crate) fn lower_rows<F: Field>(
     requires degree { d < table_degrees_of table.now }
     requires images { let x = quotient_label_of quotient.now in let into = degrees_of (free_of quotient.now) in
         AreImagesOf (⟦<Quotient as GradedModule<F>>⟧.is_element quotient.now f.now)
-            (⟦<Quotient as GradedModule<F>>⟧.degree quotient.now)
+        (⟦<Quotient as GradedModule<F>>⟧.degree quotient.now)
         (⟦<Quotient as GradedModule<F>>⟧.coordinate quotient.now f.now)
-            (edge_number (prime_of x) (label_rank_of x) (coordinate_of x) (leading_of x) into)
+        (edge_number (prime_of x) (label_rank_of x) (coordinate_of x) (leading_of x) into)
         (stalk_count (label_rank_of x - 1) into) (degrees_of from.now)
-            (lift_by (label_rank_of x) (degrees_of from.now) into lifts.now) images.now }
+        (lift_by (label_rank_of x) (degrees_of from.now) into lifts.now) images.now }
     ensures { IfOk result (λ rows. SameMatrix (matrix_of_entries rows)
         (lower_map_on table.now (free_of quotient.now) d (degrees_of from.now) lifts.now)) }
 {
@@ -210,9 +210,9 @@ pub(crate) fn upper_rows<F: Field>(
     requires degree { d < table_degrees_of table.now }
     requires images { let x = quotient_label_of quotient.now in let into = degrees_of (free_of quotient.now) in
         AreImagesOf (⟦<Quotient as GradedModule<F>>⟧.is_element quotient.now f.now)
-            (⟦<Quotient as GradedModule<F>>⟧.degree quotient.now)
+        (⟦<Quotient as GradedModule<F>>⟧.degree quotient.now)
         (⟦<Quotient as GradedModule<F>>⟧.coordinate quotient.now f.now)
-            (edge_number (prime_of x) (label_rank_of x) (coordinate_of x) (leading_of x) into)
+        (edge_number (prime_of x) (label_rank_of x) (coordinate_of x) (leading_of x) into)
         (stalk_count (label_rank_of x - 1) into) into unit_element images.now }
     ensures { IfOk result (λ rows. SameMatrix (matrix_of_entries rows) (upper_map_of quotient.now d)) }
 {

@@ -254,7 +254,7 @@ impl<F: Field> Sheaf<F> {
             result.now ≡ slice_index_or lifts (lift_place self.now.graph (sheaf_of self.now).degrees e g) [] }
         ensures element { let s = sheaf_of self.now in let G = self.now.graph in
             s.lift e g ≡ element_of G.rank (s.degrees (upper G e)) (slice_index (s.degrees (lower G e)) g)
-                (number_at result.now) }
+            (number_at result.now) }
         ensures fits { let s = sheaf_of self.now in let G = self.now.graph in
             FitsBelow result.now (stalk_count G.rank (s.degrees (upper G e)) (slice_index (s.degrees (lower G e)) g)) }
         ensures values { ValuesBelow result.now self.now.graph.prime }
@@ -270,11 +270,11 @@ impl<F: Field> Sheaf<F> {
         requires edge { e < edge_count self.now.graph }
         requires there { IsThere self.now (lower self.now.graph e) }
         requires degree { d ≤ self.now.degree }
-        ensures matrix { SameMatrix (matrix_of_entries result.now) (lower_matrix self.now.graph (sheaf_of self.now) d e)
-            }
+        ensures matrix { SameMatrix (matrix_of_entries result.now)
+            (lower_matrix self.now.graph (sheaf_of self.now) d e) }
         ensures map { let G = self.now.graph in let s = sheaf_of self.now in
             SameMatrix (matrix_of_entries result.now)
-                (matrix_of_map G.prime (stalk_module G s (lower G e)) (edge_module G s e) (from_lower G s e) d) }
+            (matrix_of_map G.prime (stalk_module G s (lower G e)) (edge_module G s e) (from_lower G s e) d) }
         ensures numbers { NumbersBelow self.now.graph.prime (matrix_of_entries result.now) }
         ensures state { IsState self.now }
     {
@@ -287,11 +287,11 @@ impl<F: Field> Sheaf<F> {
         requires edge { e < edge_count self.now.graph }
         requires there { IsThere self.now (lower self.now.graph e) }
         requires degree { d ≤ self.now.degree }
-        ensures matrix { SameMatrix (matrix_of_entries result.now) (upper_matrix self.now.graph (sheaf_of self.now) d e)
-            }
+        ensures matrix { SameMatrix (matrix_of_entries result.now)
+            (upper_matrix self.now.graph (sheaf_of self.now) d e) }
         ensures map { let G = self.now.graph in let s = sheaf_of self.now in
             SameMatrix (matrix_of_entries result.now)
-                (matrix_of_map G.prime (stalk_module G s (upper G e)) (edge_module G s e) (from_upper G s e) d) }
+            (matrix_of_map G.prime (stalk_module G s (upper G e)) (edge_module G s e) (from_upper G s e) d) }
         ensures numbers { NumbersBelow self.now.graph.prime (matrix_of_entries result.now) }
         ensures state { IsState self.now }
     {

@@ -9,7 +9,7 @@ returns-clause-agree c = λ all j inside.
     let second = c.add_row-most.ensures.sums in
     let third = c.add_row.ensures.sums in
     rows_same c.args.p c.args.lower.now c.args.upper.now (run_value c.args.low.now j) (run_value c.args.high.now j) _ _
-        _
+    _
     c.requires.lower (c.clear.ensures.zeros j (omega (arith, inside, first)))
     (c.add_row-most.ensures.added j (omega (arith, inside, first)))
     (c.add_row.ensures.added j (omega (arith, inside, first, second)))

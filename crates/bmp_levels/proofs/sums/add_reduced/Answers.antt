@@ -10,7 +10,7 @@ returns-clause-added c =
 pub returns-clause-within : goal.returns-clause-within
 returns-clause-within c =
     let step : c.from.result * c.from-2.result ≡ c.args.factor * (c.args.p - 1) =
-        rw (c.from.ensures, c.from-2.ensures) refl in
+    rw (c.from.ensures, c.from-2.ensures) refl in
     grown_within c.args.factor c.args.numbers.now c.most_for-room.new.sums c.add_multiples.new.sums
     c.add_multiples.ensures.added c.add_multiples.ensures.kept c.args.p c.most_for-room.result _ step c.requires.prime
     c.requires.numbers c.most_for-room.ensures.within c.most_for-room.ensures.room c.add_multiples.ensures.sums

@@ -17,10 +17,10 @@ pub add_numbers-requires-clause-as_many : goal.add_numbers-requires-clause-as_ma
 add_numbers-requires-clause-as_many g c =
     let value = c.deref.ensures.value in
     let factor = c.requires.factors c.loop-i.i
-        (subst (λ n. c.loop-i.i < n) (sym c.requires.as_many) c.loop-i-test.true) in
+    (subst (λ n. c.loop-i.i < n) (sym c.requires.as_many) c.loop-i-test.true) in
     let sized = ap length value ∙ c.in_ok-table.ensures.sized in
     let table = subst (AreMultiples (g.F.Field.size c.args.f.now) (g.F.Field.size c.args.f.now) c.args.more.now)
-        (sym value)
+    (sym value)
     c.in_ok-table.ensures.multiples in
     let current = current_row c.loop-i.i _ c.args.from (slice_index c.args.factors.now) (slice_index c.args.more.now)
     c.args.rows.now c.loop-i.rows c.loop-i.invariant c.loop-i-test.true c.index-rows-i.result in
@@ -31,10 +31,10 @@ pub add_numbers-requires-clause-zero : goal.add_numbers-requires-clause-zero
 add_numbers-requires-clause-zero g c =
     let value = c.deref.ensures.value in
     let factor = c.requires.factors c.loop-i.i
-        (subst (λ n. c.loop-i.i < n) (sym c.requires.as_many) c.loop-i-test.true) in
+    (subst (λ n. c.loop-i.i < n) (sym c.requires.as_many) c.loop-i-test.true) in
     let sized = ap length value ∙ c.in_ok-table.ensures.sized in
     let table = subst (AreMultiples (g.F.Field.size c.args.f.now) (g.F.Field.size c.args.f.now) c.args.more.now)
-        (sym value)
+    (sym value)
     c.in_ok-table.ensures.multiples in
     multiple-zero (g.F.Field.size c.args.f.now) _ c.args.more.now c.deref.result.now sized table factor
     c.zeros_before-start.result c.zeros_before-start.ensures.within c.zeros_before-start.ensures.zero
@@ -43,10 +43,10 @@ pub add_numbers-requires-clause-below : goal.add_numbers-requires-clause-below
 add_numbers-requires-clause-below g c =
     let value = c.deref.ensures.value in
     let factor = c.requires.factors c.loop-i.i
-        (subst (λ n. c.loop-i.i < n) (sym c.requires.as_many) c.loop-i-test.true) in
+    (subst (λ n. c.loop-i.i < n) (sym c.requires.as_many) c.loop-i-test.true) in
     let sized = ap length value ∙ c.in_ok-table.ensures.sized in
     let table = subst (AreMultiples (g.F.Field.size c.args.f.now) (g.F.Field.size c.args.f.now) c.args.more.now)
-        (sym value)
+    (sym value)
     c.in_ok-table.ensures.multiples in
     multiple-below (g.F.Field.size c.args.f.now) _ c.args.more.now c.deref.result.now sized table factor
 

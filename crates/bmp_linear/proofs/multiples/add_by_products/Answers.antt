@@ -26,7 +26,7 @@ returns g c =
       none = λ e. absurd (elim e [ inl same ↦ c.if-i-run.false same | inr zero ↦ c.if-c-eq0.false zero ]);
       added = λ other factor.
           subst (λ e. IsRowAdded p (matrix_at r c.args.numbers.now) (matrix_at r c.add_run.new.numbers) c.args.i r.row
-              e)
+          e)
           (c.from_num.ensures.number ∙ c.from.ensures)
           (added_by_products p r c.args.numbers.now c.requires.run c.args.i _ _ c.requires.row c.add_run.ensures);
     }

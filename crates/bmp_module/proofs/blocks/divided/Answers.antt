@@ -7,7 +7,7 @@ returns-then-rest-k c =
     let long_e : length c.args.e.now ≡ 6 = search rules in
     let long_m : length c.args.m.now ≡ 6 = search rules in
     divided_fails c.args.e.now c.args.m.now c.loop-k.rest c.loop-k.k long_e long_m c.loop-k-test.true c.if-rest-k.true
-        c.loop-k.invariant
+    c.loop-k.invariant
 
 pub returns : goal.returns
 returns c =

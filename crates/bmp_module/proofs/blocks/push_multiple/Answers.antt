@@ -11,12 +11,12 @@ pub returns-then-generator-raised : goal.returns-then-generator-raised
 returns-then-generator-raised g c =
     let M = moved c.args.generator (polynomials c.args.rank) in
     let none : 0 ≡ M.dim (c.args.degree + sum c.args.m.now) =
-        sym (moved_none (polynomials c.args.rank) c.args.generator (c.args.degree + sum c.args.m.now)
-        (omega (arith, c.if-generator-raised.true, c.degree_of.ensures))) in
+    sym (moved_none (polynomials c.args.rank) c.args.generator (c.args.degree + sum c.args.m.now)
+    (omega (arith, c.if-generator-raised.true, c.degree_of.ensures))) in
     appended_as (g.F.Field.is_value c.args.f.now) (g.F.Field.num c.args.f.now) c.args.numbers.now.items
-        c.args.numbers.now.items 0 (M.dim (c.args.degree + sum c.args.m.now)) _ _ none (λ j l. absurd (omega arith))
+    c.args.numbers.now.items 0 (M.dim (c.args.degree + sum c.args.m.now)) _ _ none (λ j l. absurd (omega arith))
     (appended_none (g.F.Field.is_value c.args.f.now) (g.F.Field.num c.args.f.now) c.args.numbers.now.items
-        (λ j. 0) c.requires.numbers)
+    (λ j. 0) c.requires.numbers)
 
 pub multiple_at-requires-clause-sized : goal.multiple_at-requires-clause-sized
 multiple_at-requires-clause-sized g c =
@@ -43,13 +43,13 @@ returns g c =
     let from : c.args.generator ≤ c.args.degree + sum c.args.m.now = omega (arith, c.if-generator-raised.false) in
     let last : c.loop-i.i ≡ c.count-i-end.result = omega (arith, c.loop-i.auto.i-end, c.loop-i-test.false) in
     let all : c.loop-i.i ≡ count c.args.rank ((c.args.degree + sum c.args.m.now) - c.args.generator) =
-        last ∙ c.count-i-end.ensures.number
-        ∙ ap (λ z. count c.args.rank ((c.args.degree + z) - c.args.generator)) raised in
+    last ∙ c.count-i-end.ensures.number
+    ∙ ap (λ z. count c.args.rank ((c.args.degree + z) - c.args.generator)) raised in
     appended_as (g.F.Field.is_value c.args.f.now) (g.F.Field.num c.args.f.now) c.args.numbers.now.items
-        c.loop-i.numbers.items c.loop-i.i (M.dim (c.args.degree + sum c.args.m.now)) _ _
+    c.loop-i.numbers.items c.loop-i.i (M.dim (c.args.degree + sum c.args.m.now)) _ _
     (all ∙ sym (moved_dim (polynomials c.args.rank) c.args.generator (c.args.degree + sum c.args.m.now) from
-        ∙ polynomials_dim c.args.rank ((c.args.degree + sum c.args.m.now) - c.args.generator)))
+    ∙ polynomials_dim c.args.rank ((c.args.degree + sum c.args.m.now) - c.args.generator)))
     (λ j l. moved_act c.args.rank c.args.generator c.args.degree j c.args.m.now
-        (coefficient (g.F.Field.num c.args.f.now) c.args.block.now) c.requires.rank c.requires.monomial from
-        (omega (arith, all)))
+    (coefficient (g.F.Field.num c.args.f.now) c.args.block.now) c.requires.rank c.requires.monomial from
+    (omega (arith, all)))
     (rw raised at c.loop-i.invariant)

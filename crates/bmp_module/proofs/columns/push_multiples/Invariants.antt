@@ -8,7 +8,7 @@ abbrev pub invariant-loop-t : goal.invariant-loop-t
 invariant-loop-t g l =
     HasColumns ((g.N.GradedModule.graded l.fn.over).dim l.fn.d) l.t
     (λ j i. (g.N.GradedModule.graded l.fn.over).act
-        (exponents 6 l.fn.rank (l.fn.d - g.N.GradedModule.degree l.fn.over l.fn.image) j)
-        (g.N.GradedModule.degree l.fn.over l.fn.image) l.fn.d (g.N.GradedModule.coordinate l.fn.over l.fn.f l.fn.image)
-        i % g.F.Field.size l.fn.f)
+    (exponents 6 l.fn.rank (l.fn.d - g.N.GradedModule.degree l.fn.over l.fn.image) j)
+    (g.N.GradedModule.degree l.fn.over l.fn.image) l.fn.d (g.N.GradedModule.coordinate l.fn.over l.fn.f l.fn.image)
+    i % g.F.Field.size l.fn.f)
     l.fn.columns.items l.columns.items

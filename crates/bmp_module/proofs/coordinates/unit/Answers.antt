@@ -13,7 +13,7 @@ loop-i-preserved g c =
       | else-i-place w ↦ rw w.value-is w.zero-value.ensures.value
     ] in
     let number : g.F.Field.num c.args.f.now c.if-i-place.value ≡ unit c.args.place c.loop-i.i =
-        elim c.if-i-place.branch [
+    elim c.if-i-place.branch [
       | then-i-place w ↦ rw w.value-is w.one-value.ensures.number
           ∙ sym (ap (unit c.args.place) w.if-i-place.true ∙ unit_same c.args.place)
       | else-i-place w ↦ rw w.value-is w.zero-value.ensures.number
@@ -21,11 +21,11 @@ loop-i-preserved g c =
     ] in
     rw c.in_ok-push.ensures.items
     (appended_more (g.F.Field.is_value c.args.f.now) (g.F.Field.num c.args.f.now) [] c.loop-i.values.items c.loop-i.i
-        (unit c.args.place) c.if-i-place.value c.loop-i.invariant value number)
+    (unit c.args.place) c.if-i-place.value c.loop-i.invariant value number)
 
 pub returns-clause-unit : goal.returns-clause-unit
 returns-clause-unit g c =
     let last : c.loop-i.i ≡ c.args.len = omega (arith, c.loop-i.auto.i-end, c.loop-i-test.false) in
     unit_appended (g.F.Field.is_value c.args.f.now) (g.F.Field.num c.args.f.now) c.loop-i.values.items c.args.len
-        c.args.place c.requires
+    c.args.place c.requires
     (rw last at c.loop-i.invariant)

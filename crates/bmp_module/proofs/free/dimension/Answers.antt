@@ -7,16 +7,22 @@ use Rattle.bmp_module.proofs.free.dimension.Goals as goal
 pub overflow_add-dim : goal.overflow_add-dim
 overflow_add-dim c =
     let more = total_step (block_dim (polynomials c.args.rank) c.args.d) c.args.degrees.now c.args.degrees.now
-        c.loop-g.g-index _ c.loop-g.dim 0 refl c.loop-g-test.true c.loop-g.invariant in
+    c.loop-g.g-index _ c.loop-g.dim 0 refl c.loop-g-test.true c.loop-g.invariant in
     let small = free_small c.args.rank c.args.d c.args.degrees.now c.requires.rank c.requires.degree c.requires.few in
-    omega (arith, more, c.from-dim.ensures, c.block_length.ensures, small,
-        copies_dim (polynomials c.args.rank) c.args.d c.args.degrees.now)
+    omega (
+      arith,
+      more,
+      c.from-dim.ensures,
+      c.block_length.ensures,
+      small,
+      copies_dim (polynomials c.args.rank) c.args.d c.args.degrees.now,
+    )
 
 pub loop-g-preserved : goal.loop-g-preserved
 loop-g-preserved c =
     rw (c.from-dim.ensures, c.block_length.ensures)
-        (total_step (block_dim (polynomials c.args.rank) c.args.d) c.args.degrees.now c.args.degrees.now
-        c.loop-g.g-index _ c.loop-g.dim 0 refl c.loop-g-test.true c.loop-g.invariant)
+    (total_step (block_dim (polynomials c.args.rank) c.args.d) c.args.degrees.now c.args.degrees.now
+    c.loop-g.g-index _ c.loop-g.dim 0 refl c.loop-g-test.true c.loop-g.invariant)
 
 pub returns : goal.returns
 returns c = total_end (block_dim (polynomials c.args.rank) c.args.d) c.args.degrees.now c.args.degrees.now

@@ -6,4 +6,4 @@ pub returns : goal.returns
 returns c =
     let long : length c.args.m.now ≡ 6 = search rules in
     put_right c.args.at c.args.m.now c.rotate_right.new.self c.requires.variable long c.requires.last
-        c.rotate_right.ensures.after
+    c.rotate_right.ensures.after

@@ -13,10 +13,10 @@ abbrev pub invariant-loop-g : goal.invariant-loop-g
 invariant-loop-g g l =
     AreImagesBelow
     (λ e. IsElement (g.F.Field.is_value l.fn.f)
-        (quotient l.fn.quotient.label.prime (l.fn.quotient.label.rank - 1) l.fn.quotient.label.leading
-        (λ k. get_or l.fn.quotient.label.coords k 0) l.fn.quotient.free.degrees.items) e.degree e.numbers.items)
+    (quotient l.fn.quotient.label.prime (l.fn.quotient.label.rank - 1) l.fn.quotient.label.leading
+    (λ k. get_or l.fn.quotient.label.coords k 0) l.fn.quotient.free.degrees.items) e.degree e.numbers.items)
     (λ e. e.degree) (λ e. coefficient (g.F.Field.num l.fn.f) e.numbers.items)
     (edge_number l.fn.quotient.label.prime l.fn.quotient.label.rank (λ k. get_or l.fn.quotient.label.coords k 0)
-        l.fn.quotient.label.leading l.fn.quotient.free.degrees.items)
+    l.fn.quotient.label.leading l.fn.quotient.free.degrees.items)
     (stalk_count (l.fn.quotient.label.rank - 1) l.fn.quotient.free.degrees.items) l.fn.quotient.free.degrees.items
-        unit_element l.g l.images.items
+    unit_element l.g l.images.items

@@ -13,11 +13,11 @@ abbrev pub invariant-loop-g : goal.invariant-loop-g
 invariant-loop-g g l =
     AreImagesBelow
     (λ e. IsElement (g.F.Field.is_value l.fn.f)
-        (quotient l.fn.quotient.label.prime (l.fn.quotient.label.rank - 1) l.fn.quotient.label.leading
-        (λ k. get_or l.fn.quotient.label.coords k 0) l.fn.quotient.free.degrees.items) e.degree e.numbers.items)
+    (quotient l.fn.quotient.label.prime (l.fn.quotient.label.rank - 1) l.fn.quotient.label.leading
+    (λ k. get_or l.fn.quotient.label.coords k 0) l.fn.quotient.free.degrees.items) e.degree e.numbers.items)
     (λ e. e.degree) (λ e. coefficient (g.F.Field.num l.fn.f) e.numbers.items)
     (edge_number l.fn.quotient.label.prime l.fn.quotient.label.rank (λ k. get_or l.fn.quotient.label.coords k 0)
-        l.fn.quotient.label.leading l.fn.quotient.free.degrees.items)
+    l.fn.quotient.label.leading l.fn.quotient.free.degrees.items)
     (stalk_count (l.fn.quotient.label.rank - 1) l.fn.quotient.free.degrees.items) l.fn.from.degrees.items
-        (lift_by l.fn.quotient.label.rank l.fn.from.degrees.items l.fn.quotient.free.degrees.items l.fn.lifts) l.g
-        l.images.items
+    (lift_by l.fn.quotient.label.rank l.fn.from.degrees.items l.fn.quotient.free.degrees.items l.fn.lifts) l.g
+    l.images.items

@@ -8,5 +8,5 @@ loop-d-init g c = rw c.in_ok-rows.ensures.items (maps_none (upper_map_of c.in_ok
 pub loop-d-preserved : goal.loop-d-preserved
 loop-d-preserved g c =
     rw c.in_ok-push.ensures.items
-        (maps_more (upper_map_of c.in_ok-quotient.quotient) c.loop-d.d c.loop-d.rows.items c.in_ok-upper_rows.field-0
-        c.loop-d.invariant c.in_ok-upper_rows.ensures)
+    (maps_more (upper_map_of c.in_ok-quotient.quotient) c.loop-d.d c.loop-d.rows.items c.in_ok-upper_rows.field-0
+    c.loop-d.invariant c.in_ok-upper_rows.ensures)

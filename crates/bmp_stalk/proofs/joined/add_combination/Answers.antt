@@ -30,7 +30,7 @@ loop-entry-preserved g c =
           entry_sum_step (g.F.Field.size c.args.f.now) c.entries-entry-items.result.now c.loop-entry.entry-index _
           (λ i. a.entry i j) _ _ _ _
           c.loop-entry-test.true (c.loop-entry.invariant.sums j l) (c.from_num-factor.ensures.number ∙ c.from.ensures)
-              refl
+          refl
           (c.add_coordinate_to.ensures.added j l
           ∙ ap (λ k. (get_or c.loop-entry.sums j 0 + factor * a.entry k j) % p) c.from-in-loop-entry.ensures);
     }

@@ -26,8 +26,8 @@ loop-j-preserved c =
     ap (λ z. to_z w32 (of_z w32 z)) as_long ∙ to_z-of_z w32 c.entry.result fits in
     let value : c.entry.result ≡ pairing c.args.cartan.now (integer_unit c.args.k) (integer_unit c.loop-j.j) =
     c.entry.ensures.value ∙ ap₂ (λ a b. entry c.args.cartan.now a b) (omega arith) (omega arith)
-    ∙ sym (pairing-units c.args.cartan.now c.args.k c.loop-j.j c.requires.row (omega (arith, c.loop-j.invariant.1))) in
-        (
+    ∙ sym (pairing-units c.args.cartan.now c.args.k c.loop-j.j c.requires.row
+    (omega (arith, c.loop-j.invariant.1))) in (
       value_written c.args.cartan.now (integer_unit c.args.k) c.loop-j.values c.loop-j.j _
           (omega (arith, c.loop-j.invariant.2)) c.loop-j.invariant.0
           (is ∙ value) (subst (λ z. IsWithin 6144 z) (sym is) (omega (arith, ints), omega (arith, ints))),

@@ -42,9 +42,9 @@ loop-i-preserved g c =
     let f = c.args.self.now.family.now in
     let n = c.args.self.now.count in
     let low = c.run-low.ensures
-        ∙ ap (run_at f) (c.edge-edge.ensures.lower ∙ ap (λ (H : Graph). lower_end H c.args.e) same) in
+    ∙ ap (run_at f) (c.edge-edge.ensures.lower ∙ ap (λ (H : Graph). lower_end H c.args.e) same) in
     let high = c.run-high.ensures
-        ∙ ap (run_at f) (c.edge-edge.ensures.upper ∙ ap (λ (H : Graph). upper_end H c.args.e) same) in
+    ∙ ap (run_at f) (c.edge-edge.ensures.upper ∙ ap (λ (H : Graph). upper_end H c.args.e) same) in
     let prime = c.prime-p.ensures ∙ ap (λ (H : Graph). H.prime) same in
     record {
       agree = below_more (AgreesInRow s.graph (sheaf_of s) c.args.d c.args.e (first_members n (list_of f))) c.loop-i.i

@@ -42,7 +42,7 @@ returns-clause-ok g c =
     (with_items_is (with_item c.self.inside.rows c.args.from c.replace-chosen.new.dest) mid (search (rules, places)))
     (c.add_to_each-added.ensures.count ∙ ap length value) p factor
     (subst (λ xs. AreRowsSummedBelow (length xs) p c.args.from factor (slice_index c.replace-chosen.result) xs mid)
-        value
+    value
     summed))
     c.add_to_each-added.ensures.ok
 
@@ -65,10 +65,10 @@ invariant_of-self g c =
     let same = with_items_is (with_item c.self.inside.rows c.args.from c.replace-chosen.new.dest) mid
     (search (rules, places)) in
     subst (λ (xs : List (List ℕ)). (length (set xs c.args.from c.replace-chosen.result) < 4294967296) ×
-        (cols < 4294967296)
+    (cols < 4294967296)
     × HaveLength cols (set xs c.args.from c.replace-chosen.result)) (sym same)
     (table_back c.args.self.now cols rows c.self.view_is c.args.from c.replace-chosen.new.dest c.replace-chosen.result
-        below
+    below
     pivot c.self.invariant.2 mid
     (c.add_to_each-added.ensures.count ∙ ap length c.as_mut_slice-rows.ensures.value
     ∙ length-set rows c.args.from c.replace-chosen.new.dest)

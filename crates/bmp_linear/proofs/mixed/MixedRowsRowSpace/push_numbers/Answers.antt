@@ -14,7 +14,7 @@ returns-clause-ok g c =
     (λ j l. ap (λ (xs : List ℕ). get_or xs j 0) (c.in_ok-more.ensures ∙ ap (spread_numbers cols) c.as_slice.ensures)
     ∙ spread-at cols c.in_ok-entries.entries.items j l
     ∙ c.in_ok-entries.ensures.numbers j
-        (subst (λ n. j < n) (sym (c.requires.sized ∙ sym (ap (λ t. t.cols) c.self.view_is))) l))
+    (subst (λ n. j < n) (sym (c.requires.sized ∙ sym (ap (λ t. t.cols) c.self.view_is))) l))
 
 pub returns-clause-numbers : goal.returns-clause-numbers
 returns-clause-numbers g c = λ numbers.

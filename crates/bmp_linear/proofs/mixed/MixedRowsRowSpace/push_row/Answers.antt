@@ -13,7 +13,7 @@ returns-clause-ok g c =
     table_pushed c.args.self.now cols c.self.inside.rows.items c.self.view_is c.push.new.self.items c.in_ok-more.more
     (number_at c.args.row.now) c.in_ok-push.ensures.items
     (λ j l. ap (λ (xs : List ℕ). get_or xs j 0)
-        (c.in_ok-more.ensures ∙ ap (spread_numbers cols) c.entries.ensures.items)
+    (c.in_ok-more.ensures ∙ ap (spread_numbers cols) c.entries.ensures.items)
     ∙ spread-at cols c.args.row.now j l)
 
 pub returns-clause-numbers : goal.returns-clause-numbers

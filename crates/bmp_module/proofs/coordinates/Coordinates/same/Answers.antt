@@ -10,9 +10,9 @@ returns-then-num g c = (
       let here : c.loop-i.i < length c.args.self.now.numbers.items = search rules in
       let there : c.loop-i.i < length c.args.other.now.numbers.items = omega (arith, c.requires.sized) in
       let a = coefficient_read (g.F.Field.num c.args.f.now) c.args.self.now.numbers.items c.loop-i.i c.index.result.now
-          here c.index.ensures in
+      here c.index.ensures in
       let b = coefficient_read (g.F.Field.num c.args.f.now) c.args.other.now.numbers.items c.loop-i.i
-          c.index-in-loop-i.result.now there c.index-in-loop-i.ensures in
+      c.index-in-loop-i.result.now there c.index-in-loop-i.ensures in
       absurd (c.if-num.true (c.num.ensures ∙ sym a ∙ same c.loop-i.i here ∙ b ∙ sym c.num-in-loop-i.ensures))),
 )
 
@@ -21,6 +21,6 @@ loop-i-preserved g c =
     let here : c.loop-i.i < length c.args.self.now.numbers.items = search rules in
     let there : c.loop-i.i < length c.args.other.now.numbers.items = omega (arith, c.requires.sized) in
     same_more _ _ c.loop-i.i c.loop-i.invariant
-        (same_here (g.F.Field.num c.args.f.now) c.args.self.now.numbers.items c.args.other.now.numbers.items c.loop-i.i
-        c.index.result.now c.index-in-loop-i.result.now here there c.index.ensures c.index-in-loop-i.ensures
-        (sym c.num.ensures ∙ c.if-num.false ∙ c.num-in-loop-i.ensures))
+    (same_here (g.F.Field.num c.args.f.now) c.args.self.now.numbers.items c.args.other.now.numbers.items c.loop-i.i
+    c.index.result.now c.index-in-loop-i.result.now here there c.index.ensures c.index-in-loop-i.ensures
+    (sym c.num.ensures ∙ c.if-num.false ∙ c.num-in-loop-i.ensures))

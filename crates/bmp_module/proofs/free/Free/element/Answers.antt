@@ -12,6 +12,6 @@ pub loop-number-preserved : goal.loop-number-preserved
 loop-number-preserved g c =
     rw c.in_ok-push.ensures.items
     (appended_more (g.F.Field.is_value c.args.f.now) (g.F.Field.num c.args.f.now) [] c.loop-number.values.items
-        c.loop-number.number-index (λ i. get_or c.args.numbers.now i 0) c.from_num.result c.loop-number.invariant
-        c.from_num.ensures.value
+    c.loop-number.number-index (λ i. get_or c.args.numbers.now i 0) c.from_num.result c.loop-number.invariant
+    c.from_num.ensures.value
     (c.from_num.ensures.number ∙ c.from.ensures))

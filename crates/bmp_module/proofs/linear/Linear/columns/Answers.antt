@@ -8,7 +8,7 @@ pub loop-h-init : goal.loop-h-init
 loop-h-init g c =
     rw c.new-columns.ensures.items
     (extension_start (g.F.Field.size c.args.f.now) c.args.self.now.from.now.rank c.args.d
-        (g.N.GradedModule.graded c.args.self.now.into.now) c.args.self.now.from.now.degrees.items
+    (g.N.GradedModule.graded c.args.self.now.into.now) c.args.self.now.from.now.degrees.items
     (image_coordinates (g.N.GradedModule.coordinate c.args.self.now.into.now c.args.f.now) c.args.self.now.images.now))
 
 pub loop-h-preserved : goal.loop-h-preserved
@@ -16,18 +16,18 @@ loop-h-preserved g c =
     let here : c.loop-h.h < length c.args.self.now.from.now.degrees.items = search rules in
     let image : c.loop-h.h < length c.args.self.now.images.now = omega (arith, here, c.requires.images.counted) in
     extension_more (g.F.Field.size c.args.f.now) c.args.self.now.from.now.rank c.args.d
-        (g.N.GradedModule.graded c.args.self.now.into.now) c.args.self.now.from.now.degrees.items
+    (g.N.GradedModule.graded c.args.self.now.into.now) c.args.self.now.from.now.degrees.items
     (image_coordinates (g.N.GradedModule.coordinate c.args.self.now.into.now c.args.f.now) c.args.self.now.images.now)
-        c.loop-h.h
+    c.loop-h.h
     (g.N.GradedModule.degree c.args.self.now.into.now
-        (get_or c.args.self.now.images.now c.loop-h.h c.index-self-h.result))
-        (g.N.GradedModule.coordinate c.args.self.now.into.now c.args.f.now
-        (get_or c.args.self.now.images.now c.loop-h.h c.index-self-h.result))
+    (get_or c.args.self.now.images.now c.loop-h.h c.index-self-h.result))
+    (g.N.GradedModule.coordinate c.args.self.now.into.now c.args.f.now
+    (get_or c.args.self.now.images.now c.loop-h.h c.index-self-h.result))
     c.loop-h.columns.items c.push_multiples.new.columns.items here
-        (c.requires.images.degrees c.loop-h.h c.index-self-h.result image)
+    (c.requires.images.degrees c.loop-h.h c.index-self-h.result image)
     (sym (image_read (g.N.GradedModule.coordinate c.args.self.now.into.now c.args.f.now) c.args.self.now.images.now
-        c.loop-h.h (get_or c.args.self.now.images.now c.loop-h.h c.index-self-h.result) image
-        (ap (λ z. get_or c.args.self.now.images.now c.loop-h.h z) c.index-self-h.is)))
+    c.loop-h.h (get_or c.args.self.now.images.now c.loop-h.h c.index-self-h.result) image
+    (ap (λ z. get_or c.args.self.now.images.now c.loop-h.h z) c.index-self-h.is)))
     c.loop-h.invariant c.in_ok-push_multiples.ensures
 
 pub returns : goal.returns
@@ -35,6 +35,6 @@ returns g c =
     let within : c.loop-h.h ≤ length c.args.self.now.from.now.degrees.items = search rules in
     let past : length c.args.self.now.from.now.degrees.items ≤ c.loop-h.h = search rules in
     extension_whole (g.F.Field.size c.args.f.now) c.args.self.now.from.now.rank c.args.d
-        (g.N.GradedModule.graded c.args.self.now.into.now) c.args.self.now.from.now.degrees.items
+    (g.N.GradedModule.graded c.args.self.now.into.now) c.args.self.now.from.now.degrees.items
     (image_coordinates (g.N.GradedModule.coordinate c.args.self.now.into.now c.args.f.now) c.args.self.now.images.now)
-        c.loop-h.h c.loop-h.columns.items within past c.loop-h.invariant
+    c.loop-h.h c.loop-h.columns.items within past c.loop-h.invariant

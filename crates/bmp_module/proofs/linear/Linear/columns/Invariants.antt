@@ -9,8 +9,8 @@ use Rattle.bmp_module.proofs.linear.Linear.columns.Given as goal
 abbrev pub invariant-loop-h : goal.invariant-loop-h
 invariant-loop-h g l =
     HasColumns ((g.N.GradedModule.graded l.fn.self.into.now).dim l.fn.d)
-        (start_of l.fn.self.from.now.rank l.fn.self.from.now.degrees.items l.fn.d l.h)
+    (start_of l.fn.self.from.now.rank l.fn.self.from.now.degrees.items l.fn.d l.h)
     (entry (g.F.Field.size l.fn.f) l.fn.self.from.now.rank l.fn.d (g.N.GradedModule.graded l.fn.self.into.now)
-        l.fn.self.from.now.degrees.items
-        (image_coordinates (g.N.GradedModule.coordinate l.fn.self.into.now l.fn.f) l.fn.self.images.now))
+    l.fn.self.from.now.degrees.items
+    (image_coordinates (g.N.GradedModule.coordinate l.fn.self.into.now l.fn.f) l.fn.self.images.now))
     [] l.columns.items

@@ -16,18 +16,18 @@ pub overflow_add-end : goal.overflow_add-end
 overflow_add-end g c =
     let here : c.loop-h.h < length c.args.self.now.from.now.degrees.items = search rules in
     let degree = read_is c.args.self.now.from.now.degrees.items c.loop-h.h c.index-generator.result.now here
-        c.index-generator.ensures in
+    c.index-generator.ensures in
     let inside = extended_inside (g.F.Field.size c.args.f.now) c.args.self.now.from.now.rank
-        (g.N.GradedModule.graded c.args.self.now.into.now) c.args.self.now.from.now.degrees.items
-        (image_coordinates (g.N.GradedModule.coordinate c.args.self.now.into.now c.args.f.now)
-        c.args.self.now.images.now) c.args.e.now.degree
-        (coefficient (g.F.Field.num c.args.f.now) c.args.e.now.numbers.items)
-        (g.N.GradedModule.coordinate c.args.self.now.into.now c.args.f.now c.loop-h.total) c.loop-h.h c.loop-h.start
-        (length c.args.e.now.numbers.items) here c.requires.element.sized c.loop-h.invariant.extended in
+    (g.N.GradedModule.graded c.args.self.now.into.now) c.args.self.now.from.now.degrees.items
+    (image_coordinates (g.N.GradedModule.coordinate c.args.self.now.into.now c.args.f.now)
+    c.args.self.now.images.now) c.args.e.now.degree
+    (coefficient (g.F.Field.num c.args.f.now) c.args.e.now.numbers.items)
+    (g.N.GradedModule.coordinate c.args.self.now.into.now c.args.f.now c.loop-h.total) c.loop-h.h c.loop-h.start
+    (length c.args.e.now.numbers.items) here c.requires.element.sized c.loop-h.invariant.extended in
     let size : c.block_length.result
-        ≡ (moved (get_or c.args.self.now.from.now.degrees.items c.loop-h.h 0)
-        (polynomials c.args.self.now.from.now.rank)).dim c.args.e.now.degree = c.block_length.ensures
-        ∙ ap (λ z. (moved z (polynomials c.args.self.now.from.now.rank)).dim c.args.e.now.degree) degree in
+    ≡ (moved (get_or c.args.self.now.from.now.degrees.items c.loop-h.h 0)
+    (polynomials c.args.self.now.from.now.rank)).dim c.args.e.now.degree = c.block_length.ensures
+    ∙ ap (λ z. (moved z (polynomials c.args.self.now.from.now.rank)).dim c.args.e.now.degree) degree in
     let few : length c.args.e.now.numbers.items < 2 ^ 64 = search rules in
     omega (arith, inside, few, size)
 
@@ -35,38 +35,38 @@ pub offset_bounds-deref-start : goal.offset_bounds-deref-start
 offset_bounds-deref-start g c =
     let here : c.loop-h.h < length c.args.self.now.from.now.degrees.items = search rules in
     let degree = read_is c.args.self.now.from.now.degrees.items c.loop-h.h c.index-generator.result.now here
-        c.index-generator.ensures in
+    c.index-generator.ensures in
     let inside = extended_inside (g.F.Field.size c.args.f.now) c.args.self.now.from.now.rank
-        (g.N.GradedModule.graded c.args.self.now.into.now) c.args.self.now.from.now.degrees.items
-        (image_coordinates (g.N.GradedModule.coordinate c.args.self.now.into.now c.args.f.now)
-        c.args.self.now.images.now) c.args.e.now.degree
-        (coefficient (g.F.Field.num c.args.f.now) c.args.e.now.numbers.items)
-        (g.N.GradedModule.coordinate c.args.self.now.into.now c.args.f.now c.loop-h.total) c.loop-h.h c.loop-h.start
-        (length c.args.e.now.numbers.items) here c.requires.element.sized c.loop-h.invariant.extended in
+    (g.N.GradedModule.graded c.args.self.now.into.now) c.args.self.now.from.now.degrees.items
+    (image_coordinates (g.N.GradedModule.coordinate c.args.self.now.into.now c.args.f.now)
+    c.args.self.now.images.now) c.args.e.now.degree
+    (coefficient (g.F.Field.num c.args.f.now) c.args.e.now.numbers.items)
+    (g.N.GradedModule.coordinate c.args.self.now.into.now c.args.f.now c.loop-h.total) c.loop-h.h c.loop-h.start
+    (length c.args.e.now.numbers.items) here c.requires.element.sized c.loop-h.invariant.extended in
     let size : c.block_length.result
-        ≡ (moved (get_or c.args.self.now.from.now.degrees.items c.loop-h.h 0)
-        (polynomials c.args.self.now.from.now.rank)).dim c.args.e.now.degree = c.block_length.ensures
-        ∙ ap (λ z. (moved z (polynomials c.args.self.now.from.now.rank)).dim c.args.e.now.degree) degree in
+    ≡ (moved (get_or c.args.self.now.from.now.degrees.items c.loop-h.h 0)
+    (polynomials c.args.self.now.from.now.rank)).dim c.args.e.now.degree = c.block_length.ensures
+    ∙ ap (λ z. (moved z (polynomials c.args.self.now.from.now.rank)).dim c.args.e.now.degree) degree in
     rw c.deref.ensures.value (omega (arith, inside))
 
 pub slice_bounds-block-end : goal.slice_bounds-block-end
 slice_bounds-block-end g c =
     let here : c.loop-h.h < length c.args.self.now.from.now.degrees.items = search rules in
     let degree = read_is c.args.self.now.from.now.degrees.items c.loop-h.h c.index-generator.result.now here
-        c.index-generator.ensures in
+    c.index-generator.ensures in
     let inside = extended_inside (g.F.Field.size c.args.f.now) c.args.self.now.from.now.rank
-        (g.N.GradedModule.graded c.args.self.now.into.now) c.args.self.now.from.now.degrees.items
-        (image_coordinates (g.N.GradedModule.coordinate c.args.self.now.into.now c.args.f.now)
-        c.args.self.now.images.now) c.args.e.now.degree
-        (coefficient (g.F.Field.num c.args.f.now) c.args.e.now.numbers.items)
-        (g.N.GradedModule.coordinate c.args.self.now.into.now c.args.f.now c.loop-h.total) c.loop-h.h c.loop-h.start
-        (length c.args.e.now.numbers.items) here c.requires.element.sized c.loop-h.invariant.extended in
+    (g.N.GradedModule.graded c.args.self.now.into.now) c.args.self.now.from.now.degrees.items
+    (image_coordinates (g.N.GradedModule.coordinate c.args.self.now.into.now c.args.f.now)
+    c.args.self.now.images.now) c.args.e.now.degree
+    (coefficient (g.F.Field.num c.args.f.now) c.args.e.now.numbers.items)
+    (g.N.GradedModule.coordinate c.args.self.now.into.now c.args.f.now c.loop-h.total) c.loop-h.h c.loop-h.start
+    (length c.args.e.now.numbers.items) here c.requires.element.sized c.loop-h.invariant.extended in
     let size : c.block_length.result
-        ≡ (moved (get_or c.args.self.now.from.now.degrees.items c.loop-h.h 0)
-        (polynomials c.args.self.now.from.now.rank)).dim c.args.e.now.degree = c.block_length.ensures
-        ∙ ap (λ z. (moved z (polynomials c.args.self.now.from.now.rank)).dim c.args.e.now.degree) degree in
+    ≡ (moved (get_or c.args.self.now.from.now.degrees.items c.loop-h.h 0)
+    (polynomials c.args.self.now.from.now.rank)).dim c.args.e.now.degree = c.block_length.ensures
+    ∙ ap (λ z. (moved z (polynomials c.args.self.now.from.now.rank)).dim c.args.e.now.degree) degree in
     let within : c.loop-h.start + c.block_length.result ≤ length c.deref.result.now =
-        rw c.deref.ensures.value (omega (arith, inside, size)) in
+    rw c.deref.ensures.value (omega (arith, inside, size)) in
     search rules
 
 pub loop-h-init : goal.loop-h-init
@@ -85,20 +85,20 @@ pub returns-clause-image : goal.returns-clause-image
 returns-clause-image g c =
     let past : length c.args.self.now.from.now.degrees.items ≤ c.loop-h.h = search rules in
     extended_end (g.F.Field.size c.args.f.now) c.args.self.now.from.now.rank
-        (g.N.GradedModule.graded c.args.self.now.into.now) c.args.self.now.from.now.degrees.items
-        (image_coordinates (g.N.GradedModule.coordinate c.args.self.now.into.now c.args.f.now)
-        c.args.self.now.images.now) c.args.e.now.degree
-        (coefficient (g.F.Field.num c.args.f.now) c.args.e.now.numbers.items)
-        (g.N.GradedModule.coordinate c.args.self.now.into.now c.args.f.now c.loop-h.total) c.loop-h.h c.loop-h.start
-        past
+    (g.N.GradedModule.graded c.args.self.now.into.now) c.args.self.now.from.now.degrees.items
+    (image_coordinates (g.N.GradedModule.coordinate c.args.self.now.into.now c.args.f.now)
+    c.args.self.now.images.now) c.args.e.now.degree
+    (coefficient (g.F.Field.num c.args.f.now) c.args.e.now.numbers.items)
+    (g.N.GradedModule.coordinate c.args.self.now.into.now c.args.f.now c.loop-h.total) c.loop-h.h c.loop-h.start
+    past
     (λ j l. g.met.N.GradedModule.numbers c.args.self.now.into.now c.args.f.now c.loop-h.total c.loop-h.invariant.element
-        j (rw c.loop-h.invariant.degree l)) c.loop-h.invariant.extended
+    j (rw c.loop-h.invariant.degree l)) c.loop-h.invariant.extended
 
 pub loop-h-preserved : goal.loop-h-preserved
 loop-h-preserved g c =
     let here : c.loop-h.h < length c.args.self.now.from.now.degrees.items = search rules in
     let degree = read_is c.args.self.now.from.now.degrees.items c.loop-h.h c.index-generator.result.now here
-        c.index-generator.ensures in
+    c.index-generator.ensures in
     let image : c.loop-h.h < length c.args.self.now.images.now = omega (arith, here, c.requires.map.2.counted) in
     record {
       element = c.in_ok-add_multiples.ensures.element;
@@ -116,26 +116,26 @@ loop-h-preserved g c =
           (coefficient (g.F.Field.num c.args.f.now)
           (slice_range c.deref.result.now c.loop-h.start (c.loop-h.start + c.block_length.result)))
           c.args.self.now.from.now.wide
-              (narrower_module (g.F.Field.size c.args.f.now) c.args.self.now.from.now.rank
-              (g.N.GradedModule.rank c.args.self.now.into.now) (g.N.GradedModule.graded c.args.self.now.into.now)
-              c.requires.map.1 (g.met.N.GradedModule.laws c.args.self.now.into.now c.args.f.now c.requires.map.0)) here
-              degree
+          (narrower_module (g.F.Field.size c.args.f.now) c.args.self.now.from.now.rank
+          (g.N.GradedModule.rank c.args.self.now.into.now) (g.N.GradedModule.graded c.args.self.now.into.now)
+          c.requires.map.1 (g.met.N.GradedModule.laws c.args.self.now.into.now c.args.f.now c.requires.map.0)) here
+          degree
           (sym (image_read (g.N.GradedModule.coordinate c.args.self.now.into.now c.args.f.now)
-              c.args.self.now.images.now c.loop-h.h (get_or c.args.self.now.images.now c.loop-h.h c.index-self-h.result)
-              image (ap (λ z. get_or c.args.self.now.images.now c.loop-h.h z) c.index-self-h.is)))
+          c.args.self.now.images.now c.loop-h.h (get_or c.args.self.now.images.now c.loop-h.h c.index-self-h.result)
+          image (ap (λ z. get_or c.args.self.now.images.now c.loop-h.h z) c.index-self-h.is)))
           (ap (λ z. c.loop-h.start + z) c.block_length.ensures)
           (λ i inner. coefficient_range (g.F.Field.num c.args.f.now) c.deref.result.now c.loop-h.start
-              (c.loop-h.start + c.block_length.result) i (omega (arith, inner, c.block_length.ensures))
-              ∙ ap (λ z. coefficient (g.F.Field.num c.args.f.now) z (c.loop-h.start + i)) c.deref.ensures.value)
+          (c.loop-h.start + c.block_length.result) i (omega (arith, inner, c.block_length.ensures))
+          ∙ ap (λ z. coefficient (g.F.Field.num c.args.f.now) z (c.loop-h.start + i)) c.deref.ensures.value)
           (added_in (g.F.Field.size c.args.f.now) c.args.self.now.from.now.rank
-              (g.N.GradedModule.graded c.args.self.now.into.now) c.index-generator.result.now
-              (g.N.GradedModule.degree c.args.self.now.into.now c.loop-h.total) c.args.e.now.degree
-              (g.N.GradedModule.coordinate c.args.self.now.into.now c.args.f.now
-              (get_or c.args.self.now.images.now c.loop-h.h c.index-self-h.result))
-              (coefficient (g.F.Field.num c.args.f.now)
-              (slice_range c.deref.result.now c.loop-h.start (c.loop-h.start + c.block_length.result)))
-              (g.N.GradedModule.coordinate c.args.self.now.into.now c.args.f.now c.loop-h.total)
-              (g.N.GradedModule.coordinate c.args.self.now.into.now c.args.f.now c.add_multiples.new.total)
-              c.loop-h.invariant.degree c.in_ok-add_multiples.ensures.added)
+          (g.N.GradedModule.graded c.args.self.now.into.now) c.index-generator.result.now
+          (g.N.GradedModule.degree c.args.self.now.into.now c.loop-h.total) c.args.e.now.degree
+          (g.N.GradedModule.coordinate c.args.self.now.into.now c.args.f.now
+          (get_or c.args.self.now.images.now c.loop-h.h c.index-self-h.result))
+          (coefficient (g.F.Field.num c.args.f.now)
+          (slice_range c.deref.result.now c.loop-h.start (c.loop-h.start + c.block_length.result)))
+          (g.N.GradedModule.coordinate c.args.self.now.into.now c.args.f.now c.loop-h.total)
+          (g.N.GradedModule.coordinate c.args.self.now.into.now c.args.f.now c.add_multiples.new.total)
+          c.loop-h.invariant.degree c.in_ok-add_multiples.ensures.added)
           c.loop-h.invariant.extended;
     }

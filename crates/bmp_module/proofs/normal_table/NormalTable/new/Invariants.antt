@@ -7,4 +7,4 @@ abbrev pub invariant-loop-s : goal.invariant-loop-s
 invariant-loop-s g l =
     (length l.table.items ≡ l.s)
     × HasNormalForms l.fn.label.prime l.fn.label.rank (λ k. get_or l.fn.label.coords k 0) l.fn.label.leading
-        (map (λ v. v.items) l.table.items)
+    (map (λ v. v.items) l.table.items)

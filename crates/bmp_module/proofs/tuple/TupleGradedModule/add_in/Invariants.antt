@@ -8,10 +8,10 @@ invariant-loop-k g l =
     (l.into.degree ≡ l.initial.into.degree)
     × ChangedBelow
     (λ i a b. (m : g.row.M.Denot) (x : g.row.M-Elem.Denot) →
-        g.M.GradedModule.is_element (get_or l.fn.self.parts.items i m) l.fn.f b ×
-        (g.M.GradedModule.degree (get_or l.fn.self.parts.items i m) b ≡ l.initial.into.degree)
+    g.M.GradedModule.is_element (get_or l.fn.self.parts.items i m) l.fn.f b ×
+    (g.M.GradedModule.degree (get_or l.fn.self.parts.items i m) b ≡ l.initial.into.degree)
     × ((j : ℕ) → j < (g.M.GradedModule.graded (get_or l.fn.self.parts.items i m)).dim l.initial.into.degree →
-        g.M.GradedModule.coordinate (get_or l.fn.self.parts.items i m) l.fn.f b j
-        ≡ (g.M.GradedModule.coordinate (get_or l.fn.self.parts.items i m) l.fn.f a j + g.M.GradedModule.coordinate
-        (get_or l.fn.self.parts.items i m) l.fn.f (get_or l.fn.other.parts.items i x) j) % g.F.Field.size l.fn.f))
+    g.M.GradedModule.coordinate (get_or l.fn.self.parts.items i m) l.fn.f b j
+    ≡ (g.M.GradedModule.coordinate (get_or l.fn.self.parts.items i m) l.fn.f a j + g.M.GradedModule.coordinate
+    (get_or l.fn.self.parts.items i m) l.fn.f (get_or l.fn.other.parts.items i x) j) % g.F.Field.size l.fn.f))
     l.initial.into.parts.items l.into.parts.items l.k

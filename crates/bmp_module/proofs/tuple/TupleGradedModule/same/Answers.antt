@@ -8,18 +8,18 @@ returns-then-not-same g c = (
   (λ agree.
       let inside : c.loop-k.k < length c.args.self.now.parts.items = search rules in
       absurd (true≢false
-          (sym (c.same.ensures.1
-          (tuples_part g.M.GradedModule.graded (λ m a. g.M.GradedModule.coordinate m c.args.f.now a) c.args.a.now.degree
-          c.args.b.now.degree c.args.self.now.parts.items c.args.a.now.parts.items c.args.b.now.parts.items c.loop-k.k
-          c.index.result.now c.index-in-loop-k.result.now c.index-in-loop-k-2.result.now c.requires.degree
-          c.requires.first c.requires.second c.index.ensures c.index-in-loop-k.ensures c.index-in-loop-k-2.ensures
-          inside agree)) ∙ c.if-not-same.true))),
+      (sym (c.same.ensures.1
+      (tuples_part g.M.GradedModule.graded (λ m a. g.M.GradedModule.coordinate m c.args.f.now a) c.args.a.now.degree
+      c.args.b.now.degree c.args.self.now.parts.items c.args.a.now.parts.items c.args.b.now.parts.items c.loop-k.k
+      c.index.result.now c.index-in-loop-k.result.now c.index-in-loop-k-2.result.now c.requires.degree
+      c.requires.first c.requires.second c.index.ensures c.index-in-loop-k.ensures c.index-in-loop-k-2.ensures
+      inside agree)) ∙ c.if-not-same.true))),
 )
 
 pub returns : goal.returns
 returns g c =
     let all : length c.args.self.now.parts.items ≤ c.loop-k.k =
-        omega (arith, c.len-k-end.ensures, c.loop-k-test.false) in (
+    omega (arith, c.len-k-end.ensures, c.loop-k-test.false) in (
       (λ t. tuples_same g.M.GradedModule.graded (λ m a. g.M.GradedModule.coordinate m c.args.f.now a)
           c.args.a.now.degree c.args.b.now.degree c.args.self.now.parts.items c.args.a.now.parts.items
           c.args.b.now.parts.items c.requires.degree c.requires.first.sized c.requires.second.sized

@@ -7,5 +7,5 @@ returns-clause-zero g c =
     let past : length c.args.self.now.parts.items ≤ c.loop-k.k = search rules in
     let within : c.loop-k.k ≤ length c.args.self.now.parts.items = search rules in
     tuple_zero (λ m e. g.M.GradedModule.is_element m c.args.f.now e) g.M.GradedModule.degree g.M.GradedModule.graded
-        (λ m e. g.M.GradedModule.coordinate m c.args.f.now e) c.args.d c.loop-k.k c.args.self.now.parts.items
-        c.loop-k.parts.items past within c.loop-k.invariant
+    (λ m e. g.M.GradedModule.coordinate m c.args.f.now e) c.args.d c.loop-k.k c.args.self.now.parts.items
+    c.loop-k.parts.items past within c.loop-k.invariant

@@ -10,9 +10,9 @@ value_at-requires-clause-numbers g c =
     let t = c.args.self.now in
     let s = t.sheaf.now in
     edge_rows_below s.graph c.lower_rows.ensures.state.over (sheaf_of s) t.vertex t.degree c.edge_of-e.result.0
-        c.edge_of-e.ensures.edge c.edge_of-e.ensures.starts
+    c.edge_of-e.ensures.edge c.edge_of-e.ensures.starts
     (matrix_of_entries c.lower_rows.result.now) c.lower_rows.ensures.matrix (g.F.Field.size c.args.f.now)
-        c.requires.numbers
+    c.requires.numbers
 
 pub returns-clause-number : goal.returns-clause-number
 returns-clause-number g c =
@@ -21,6 +21,6 @@ returns-clause-number g c =
     c.value_at.ensures.number
     ∙ ap (λ z. z % g.F.Field.size c.args.f.now)
     (image_is s.graph c.lower_rows.ensures.state.over (sheaf_of s) t.vertex t.degree c.edge_of-e.result.0
-        c.edge_of-e.ensures.edge c.edge_of-e.ensures.starts
+    c.edge_of-e.ensures.edge c.edge_of-e.ensures.starts
     (matrix_of_entries c.lower_rows.result.now) c.lower_rows.ensures.matrix c.args.i c.edge_of-e.result.1
-        c.edge_of-e.ensures.inside c.edge_of-e.ensures.place (number_at c.args.vector.now))
+    c.edge_of-e.ensures.inside c.edge_of-e.ensures.place (number_at c.args.vector.now))

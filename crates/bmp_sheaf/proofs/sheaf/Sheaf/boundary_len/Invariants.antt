@@ -5,5 +5,7 @@ use Rattle.bmp_sheaf.proofs.sheaf.Sheaf.boundary_len.Given as goal
 
 abbrev pub invariant-loop-e : goal.invariant-loop-e
 invariant-loop-e g l =
-    record { so_far : l.len ≡ boundary_start l.self.graph (sheaf_of l.self) l.x l.d l.e;
-    small : l.len ≤ 4294967295 * l.e }
+    record {
+      so_far : l.len ≡ boundary_start l.self.graph (sheaf_of l.self) l.x l.d l.e;
+      small : l.len ≤ 4294967295 * l.e;
+    }

@@ -15,8 +15,8 @@ returns-then-not-fits-clause-fault g c = (
           let none : false ≡ true =
           c.if-not-fits.ensures.1
           (read_fits c.args.lifts.now c.loop-i.i c.lift_room-room.result
-              (lift_room c.args.self.now c.args.x c.args.degrees.now c.loop-i.i) c.index-lifts-i.result
-              c.loop-i-test.true c.index-lifts-i.is c.lift_room-room.ensures fits) in
+          (lift_room c.args.self.now c.args.x c.args.degrees.now c.loop-i.i) c.index-lifts-i.result
+          c.loop-i-test.true c.index-lifts-i.is c.lift_room-room.ensures fits) in
           cc;
       earlier = c.loop-i.invariant;
     },

@@ -22,4 +22,4 @@ returns-clause-dimension g c = λ d.
     let s = c.args.self.now in
     ap (λ (M : Graded). M.dim d) (module_kept_is s c.args.e c.behind-self.inside.quotient (returns-clause-module g c))
     ∙ quotient_count s.graph.prime (s.graph.rank - 1) (leading s.graph c.args.e) d (label s.graph c.args.e)
-        (stalk_of s (upper s.graph c.args.e)).degrees
+    (stalk_of s (upper s.graph c.args.e)).degrees

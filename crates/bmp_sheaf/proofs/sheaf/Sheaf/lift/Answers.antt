@@ -13,19 +13,19 @@ pub returns-clause-element : goal.returns-clause-element
 returns-clause-element g c =
     let s = c.args.self.now in
     let element : List Entry → Element =
-        λ w. element_of s.graph.rank (stalk_of s (upper s.graph c.args.e)).degrees
-        (slice_index (stalk_of s (lower s.graph c.args.e)).degrees c.args.g) (number_at w) in
+    λ w. element_of s.graph.rank (stalk_of s (upper s.graph c.args.e)).degrees
+    (slice_index (stalk_of s (lower s.graph c.args.e)).degrees c.args.g) (number_at w) in
     let v = c.index-as_slice-place.result in
     let t = c.part-part.result.now in
     let place = c.up_place.result * c.generators.result + c.args.g in
     let starts : c.edge.result.now.lower ≡ lower c.args.self.now.graph c.args.e =
-        c.edge.ensures.lower ∙ ap (λ G. lower G c.args.e) c.graph.ensures.graph in
+    c.edge.ensures.lower ∙ ap (λ G. lower G c.args.e) c.graph.ensures.graph in
     let many : c.generators.result ≡ length t.degrees = rw (← c.part.view_is) c.generators.ensures in
     let read : v ≡ get_or t.lifts place v =
-        c.index-as_slice-place.is
-        ∙ ap (λ xs. get_or xs place v) (c.as_slice.ensures.items ∙ ap (λ t. t.lifts) c.part.view_is) in
+    c.index-as_slice-place.is
+    ∙ ap (λ xs. get_or xs place v) (c.as_slice.ensures.items ∙ ap (λ t. t.lifts) c.part.view_is) in
     ap element (lift_kept c.args.self.now c.edge.result.now.lower t c.part-part.ensures.table c.args.e c.requires.edge
-        starts c.up_place.result c.args.g c.up_place.ensures c.requires.generator c.generators.result v many read)
+    starts c.up_place.result c.args.g c.up_place.ensures c.requires.generator c.generators.result v many read)
 
 pub returns-clause-fits : goal.returns-clause-fits
 returns-clause-fits g c =
@@ -33,13 +33,13 @@ returns-clause-fits g c =
     let t = c.part-part.result.now in
     let place = c.up_place.result * c.generators.result + c.args.g in
     let starts : c.edge.result.now.lower ≡ lower c.args.self.now.graph c.args.e =
-        c.edge.ensures.lower ∙ ap (λ G. lower G c.args.e) c.graph.ensures.graph in
+    c.edge.ensures.lower ∙ ap (λ G. lower G c.args.e) c.graph.ensures.graph in
     let many : c.generators.result ≡ length t.degrees = rw (← c.part.view_is) c.generators.ensures in
     let read : v ≡ get_or t.lifts place v =
-        c.index-as_slice-place.is
-        ∙ ap (λ xs. get_or xs place v) (c.as_slice.ensures.items ∙ ap (λ t. t.lifts) c.part.view_is) in
+    c.index-as_slice-place.is
+    ∙ ap (λ xs. get_or xs place v) (c.as_slice.ensures.items ∙ ap (λ t. t.lifts) c.part.view_is) in
     lift_kept_fits c.args.self.now c.edge.result.now.lower t c.part-part.ensures.table c.args.e c.requires.edge starts
-        c.up_place.result c.args.g c.up_place.ensures c.requires.generator c.generators.result v many read
+    c.up_place.result c.args.g c.up_place.ensures c.requires.generator c.generators.result v many read
 
 pub returns-clause-values : goal.returns-clause-values
 returns-clause-values g c =
@@ -47,10 +47,10 @@ returns-clause-values g c =
     let t = c.part-part.result.now in
     let place = c.up_place.result * c.generators.result + c.args.g in
     let starts : c.edge.result.now.lower ≡ lower c.args.self.now.graph c.args.e =
-        c.edge.ensures.lower ∙ ap (λ G. lower G c.args.e) c.graph.ensures.graph in
+    c.edge.ensures.lower ∙ ap (λ G. lower G c.args.e) c.graph.ensures.graph in
     let many : c.generators.result ≡ length t.degrees = rw (← c.part.view_is) c.generators.ensures in
     let read : v ≡ get_or t.lifts place v =
-        c.index-as_slice-place.is
-        ∙ ap (λ xs. get_or xs place v) (c.as_slice.ensures.items ∙ ap (λ t. t.lifts) c.part.view_is) in
+    c.index-as_slice-place.is
+    ∙ ap (λ xs. get_or xs place v) (c.as_slice.ensures.items ∙ ap (λ t. t.lifts) c.part.view_is) in
     lift_kept_values c.args.self.now c.edge.result.now.lower t c.part-part.ensures.table c.args.e c.requires.edge starts
-        c.up_place.result c.args.g c.up_place.ensures c.requires.generator c.generators.result v many read
+    c.up_place.result c.args.g c.up_place.ensures c.requires.generator c.generators.result v many read

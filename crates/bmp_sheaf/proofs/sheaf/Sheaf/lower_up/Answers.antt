@@ -22,17 +22,17 @@ goes : (g : Over) (c : In-loop-e g) →
     GoesUp c.args.self.now.graph c.args.x c.loop-e.e (c.loop-e.e - c.up-first.result.0)
 goes g c =
     goes_up c.args.self.now.graph _ c.args.x c.up-first.result.0 c.up-first.result.1 c.loop-e.e c.graph.ensures.graph
-        c.up-first.ensures.range
+    c.up-first.ensures.range
     c.loop-e.auto.e c.loop-e-test.true
 
 edge_is : (g : Over) (c : After-behind-uppers g) →
     IsEdgeModule c.args.self.now c.loop-e.e c.behind-uppers.inside.quotient
 edge_is g c =
     let up = goes_up c.args.self.now.graph _ c.args.x c.up-first.result.0 c.up-first.result.1 c.loop-e.e
-        c.graph.ensures.graph c.up-first.ensures.range
+    c.graph.ensures.graph c.up-first.ensures.range
     c.loop-e.auto.e c.loop-e-test.true in
     subst (λ (u : UpperTable). IsEdgeModule c.args.self.now c.loop-e.e u.quotient)
-        (sym (c.behind-uppers.view_is ∙ c.deref.ensures))
+    (sym (c.behind-uppers.view_is ∙ c.deref.ensures))
     (upper_read c.args.uppers.now c.requires.uppers up c.index-uppers-e.result c.index-uppers-e.is).edge
 
 lifts_inside : (g : Over) (c : In-loop-e g) →
@@ -41,7 +41,7 @@ lifts_inside : (g : Over) (c : In-loop-e g) →
 lifts_inside g c =
     rw c.generators-generators.ensures
     (edge_lifts_inside c.args.self.now c.args.x (degrees_of c.args.from.now) c.args.lifts.now c.requires.stalk
-        c.loop-e.e (c.loop-e.e - c.up-first.result.0) (goes g c).at)
+    c.loop-e.e (c.loop-e.e - c.up-first.result.0) (goes g c).at)
 
 pub offset_bounds-lifts-start : goal.offset_bounds-lifts-start
 offset_bounds-lifts-start g c = omega (arith, lifts_inside g (goal.at.offset_bounds-lifts-start g c).In-loop-e)
@@ -59,10 +59,10 @@ lifted-requires-clause-fit g c =
     let lifts = c.args.lifts.now in
     let start = (c.loop-e.e - c.up-first.result.0) * c.generators-generators.result in
     own_fit c.args.self.now c.requires.left c.graph.ensures.state.over.is_graph c.args.x c.requires.next
-        (degrees_of c.args.from.now) lifts c.loop-e.e (c.loop-e.e - c.up-first.result.0) up.is_edge up.at up.starts
+    (degrees_of c.args.from.now) lifts c.loop-e.e (c.loop-e.e - c.up-first.result.0) up.is_edge up.at up.starts
     (degrees_of (free_of c.behind-uppers.inside.quotient)) is.degrees c.generators-generators.result
-        (slice_range lifts start (start + c.generators-generators.result)) c.generators-generators.ensures refl _
-        is.rank
+    (slice_range lifts start (start + c.generators-generators.result)) c.generators-generators.ensures refl _
+    is.rank
     c.requires.stalk
 
 pub lifted-requires-clause-prime : goal.lifted-requires-clause-prime
@@ -74,7 +74,7 @@ pub lower_rows-requires-clause-label : goal.lower_rows-requires-clause-label
 lower_rows-requires-clause-label g c =
     let is = edge_is g (goal.at.lower_rows-requires-clause-label g c).After-behind-uppers in
     edge_label c.args.self.now c.loop-e.e c.table-table.result.now c.behind-uppers.inside.quotient c.table-table.ensures
-        is
+    is
 
 pub lifted-requires-clause-degrees : goal.lifted-requires-clause-degrees
 lifted-requires-clause-degrees g c =
@@ -86,10 +86,10 @@ lifted-requires-clause-values g c =
     let start = (c.loop-e.e - c.up-first.result.0) * c.generators-generators.result in
     let many = start + c.generators-generators.result - start in
     let size : g.F.Field.size c.field-f.result.now ≡ c.args.self.now.graph.prime =
-        ap g.F.Field.size c.field-f.ensures.field ∙ c.field-f.ensures.size in
+    ap g.F.Field.size c.field-f.ensures.field ∙ c.field-f.ensures.size in
     subst (λ p. All (λ (v : List Entry). ValuesBelow v p) (take many (drop start lifts))) (sym size)
     (All-take (λ (v : List Entry). ValuesBelow v c.args.self.now.graph.prime) many (drop start lifts)
-        (All-drop (λ (v : List Entry). ValuesBelow v c.args.self.now.graph.prime) start lifts c.requires.values))
+    (All-drop (λ (v : List Entry). ValuesBelow v c.args.self.now.graph.prime) start lifts c.requires.values))
 
 pub loop-e-init : goal.loop-e-init
 loop-e-init g c =
@@ -110,28 +110,28 @@ loop-d-preserved g c =
     let is = edge_is g (goal.at.loop-d-preserved g c).After-behind-uppers in
     let start = (c.loop-e.e - c.up-first.result.0) * c.generators-generators.result in
     let below = new_lower s c.requires.left c.graph.ensures.state.over.is_graph c.args.x c.requires.next degrees lifts
-        c.loop-e.e (c.loop-e.e - c.up-first.result.0) up.is_edge up.at up.starts
+    c.loop-e.e (c.loop-e.e - c.up-first.result.0) up.is_edge up.at up.starts
     (degrees_of (free_of c.behind-uppers.inside.quotient)) is.degrees c.generators-generators.result
-        (slice_range lifts start (start + c.generators-generators.result)) c.generators-generators.ensures refl
+    (slice_range lifts start (start + c.generators-generators.result)) c.generators-generators.ensures refl
     c.loop-d.d _ c.table-table.result.now c.table-table.ensures is.rank (matrix_of_entries c.in_ok-rows.rows)
-        c.in_ok-rows.ensures in
+    c.in_ok-rows.ensures in
     rw c.in_ok-push.ensures.items
     (up_more (with_stalk s (record { degrees = degrees; lifts = lifts })) c.up-first.result.0 c.loop-e.e c.loop-d.d
-        c.loop-d.lower.items c.in_ok-rows.rows c.loop-e.auto.e
+    c.loop-d.lower.items c.in_ok-rows.rows c.loop-e.auto.e
     (omega (arith, c.loop-d-test.true, c.degree-d-end.ensures.degree)) below c.loop-d.invariant)
 
 pub loop-e-preserved : goal.loop-e-preserved
 loop-e-preserved g c =
     let t = with_stalk c.args.self.now (record { degrees = degrees_of c.args.from.now; lifts = c.args.lifts.now }) in
     up_ends t c.up-first.result.0 c.loop-e.e c.loop-d.d c.loop-d.lower.items c.loop-e.auto.e
-        (omega (arith, c.loop-d.auto.d-end, c.loop-d-test.false, c.degree-d-end.ensures.degree)) c.loop-d.invariant
+    (omega (arith, c.loop-d.auto.d-end, c.loop-d-test.false, c.degree-d-end.ensures.degree)) c.loop-d.invariant
 
 pub returns : goal.returns
 returns g c =
     let s = c.args.self.now in
     let range : IsUpRange s.graph c.args.x c.up-first.result.0 c.up-first.result.1 =
-        subst (λ H. IsUpRange H c.args.x c.up-first.result.0 c.up-first.result.1) c.graph.ensures.graph
-        c.up-first.ensures.range in
+    subst (λ H. IsUpRange H c.args.x c.up-first.result.0 c.up-first.result.1) c.graph.ensures.graph
+    c.up-first.ensures.range in
     let t = with_stalk c.args.self.now (record { degrees = degrees_of c.args.from.now; lifts = c.args.lifts.now }) in
     lower_all t c.up-first.result.0 c.args.x c.up-first.result.1 c.loop-e.e c.loop-e.lower.items range
-        (omega (arith, range.ordered, c.loop-e.auto.e-end, c.loop-e-test.false)) c.loop-e.invariant
+    (omega (arith, range.ordered, c.loop-e.auto.e-end, c.loop-e-test.false)) c.loop-e.invariant

@@ -10,7 +10,7 @@ pub invariant_of-self : goal.invariant_of-self
 invariant_of-self g c =
     let b = arc_value c.self.inside.setting in
     subst (λ ts. IsKept (g.F.Field.size b.field) (state_of b.graph b.field b.degree ts) b.tables c.self.inside.uppers
-        ts)
+    ts)
     (sym c.truncate.ensures) (kept_first c.self.invariant (c.len-count.result - 1))
 
 pub returns : goal.returns
@@ -24,5 +24,5 @@ returns g c =
       sym c.self.view_is
           ∙ ap (λ (ys : List Stalk). record { graph = b.graph; field = b.field; degree = b.degree; stalks = ys })
           (ap (map stalk_in) (sym (take_all (m + 1) ts (omega (arith, c.len-count.ensures))))
-              ∙ map_more stalk_in ts m no_table (omega (arith, c.len-count.ensures, some, length-map ts stalk_in))),
+          ∙ map_more stalk_in ts m no_table (omega (arith, c.len-count.ensures, some, length-map ts stalk_in))),
     )

@@ -8,7 +8,7 @@ pub dim-requires-clause-small : goal.dim-requires-clause-small
 dim-requires-clause-small g c =
     let free = c.stalk.result.now in
     free_small free.rank c.args.d free.degrees.items free.wide
-        (omega (arith, c.requires.degree, c.stalk.ensures.state.bound)) free.few
+    (omega (arith, c.requires.degree, c.stalk.ensures.state.bound)) free.few
 
 pub returns : goal.returns
 returns g c =

@@ -12,7 +12,7 @@ returns-clause-upper g c =
     let x = c.edge.result.now.lower in
     let starts : x ≡ lower s.graph e = c.edge.ensures.lower ∙ ap (λ G. lower G e) c.graph.ensures.graph in
     let up : GoesUp s.graph x e c.up_place.result =
-        record { is_edge = c.requires.edge; starts = sym starts; at = rw starts c.up_place.ensures } in
+    record { is_edge = c.requires.edge; starts = sym starts; at = rw starts c.up_place.ensures } in
     let uppers = rw (← c.part.view_is) at c.part-part.ensures.table.uppers in
     subst (IsUpperOf s e) (sym c.deref.ensures)
-        (upper_read c.part.inside.uppers.items uppers up c.index.result.now c.index.ensures)
+    (upper_read c.part.inside.uppers.items uppers up c.index.result.now c.index.ensures)

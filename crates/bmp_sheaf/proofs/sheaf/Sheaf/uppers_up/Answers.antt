@@ -30,6 +30,6 @@ returns g c =
     let s = c.args.self.now in
     let range : IsUpRange s.graph c.args.x c.up-first.result.0 c.up-first.result.1 =
     subst (λ H. IsUpRange H c.args.x c.up-first.result.0 c.up-first.result.1) c.graph.ensures.graph
-        c.up-first.ensures.range in
+    c.up-first.ensures.range in
     uppers_all s c.args.x c.up-first.result.0 c.up-first.result.1 c.loop-e.e (map arc_value c.loop-e.uppers.items) range
     (omega (arith, range.ordered, c.loop-e.auto.e-end, c.loop-e-test.false)) c.loop-e.invariant

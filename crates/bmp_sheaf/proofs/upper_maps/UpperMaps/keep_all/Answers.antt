@@ -6,10 +6,10 @@ pub returns-in_err-keep : goal.returns-in_err-keep
 returns-in_err-keep g c = λ D all uppers.
     c.keep.ensures D (c.loop-upper.invariant D all uppers)
     (value_of_all c.args.uppers.now c.loop-upper.upper-index c.upper-item.result c.loop-upper-test.true c.upper-item.is
-        (IsUpperTable D) uppers)
+    (IsUpperTable D) uppers)
 
 pub loop-upper-preserved : goal.loop-upper-preserved
 loop-upper-preserved g c = λ D all uppers.
     c.keep.ensures D (c.loop-upper.invariant D all uppers)
     (value_of_all c.args.uppers.now c.loop-upper.upper-index c.upper-item.result c.loop-upper-test.true c.upper-item.is
-        (IsUpperTable D) uppers)
+    (IsUpperTable D) uppers)
